@@ -1,0 +1,4 @@
+pub mod Repeats
+pub mod Fillings
+pub mod Climbs
+pub mod Same

@@ -1,0 +1,6 @@
+-- A loss of IIAD is as its rule says. Assumes nothing.
+use Rattle.congestion.proofs.Same.{iiad-same}
+use Rattle.congestion.proofs.iiad.control.IiadController.loss.Needs as need
+
+pub returns : need.returns
+returns c = iiad-same _ _ (c .lost .ensures)

@@ -1,0 +1,9 @@
+pub mod Choice
+pub mod Repeat
+pub mod Control
+pub mod Faults
+pub mod Starts
+pub mod Growths
+pub mod RenoRules
+pub mod IiadRules
+pub mod Layers

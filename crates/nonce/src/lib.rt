@@ -1,0 +1,5 @@
+pub mod recorded;
+pub mod source;
+pub mod splitmix;
+#[cfg(test)]
+mod tests;

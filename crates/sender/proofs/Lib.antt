@@ -1,0 +1,5 @@
+pub mod Tables
+pub mod Echoes
+pub mod Retiring
+pub mod Laid
+pub mod Sends

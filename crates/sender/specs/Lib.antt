@@ -1,0 +1,5 @@
+pub mod Tables
+pub mod Walks
+pub mod Laid
+pub mod Orders
+pub mod Views

@@ -1,0 +1,4 @@
+pub mod order;
+pub mod sender;
+mod table;
+mod walks;

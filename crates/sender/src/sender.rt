@@ -1,0 +1,48 @@
+ghost use mathlib.Core.Bool.{true};
+ghost use mathlib.Core.Path.{_≡_};
+ghost use Prim.Native.Nat.{_^_, _≤_};
+ghost use Rattle.sender.specs.Laid.{laid, spent-of};
+ghost use Rattle.sender.specs.Tables.{claims};
+use crate::table::Table;
+use congestion::controller::Controller;
+use nonce::source::NonceSource;
+
+mod acknowledges;
+mod figures;
+mod opening;
+mod repeats;
+mod room;
+mod sends;
+mod timeouts;
+
+/// A sender that may still send.
+#[derive(Clone, Copy)]
+pub struct Sending;
+
+/// A finished sender, which has every call but `send`.
+#[derive(Clone, Copy)]
+pub struct Finished;
+
+/// The sending end of the link, over one controller and one nonce source.
+#[derive(Drop)]
+pub struct Sender<C: Controller, N: NonceSource, S = Sending> {
+    controller: C,
+    nonces: N,
+    table: Table<64>,
+    /// The sum, modulo 2^64, of the summed nonces of the segments whose claims are gone.
+    settled: u64,
+    /// The bytes sent.
+    sent: u64,
+    /// The proved end: all bytes before it are acknowledged.
+    proved: u64,
+    /// The duplicates counted since the last advance or timeout.
+    duplicates: u32,
+    repeat_due: bool,
+    stage: S,
+    ghost within: { proved ≤ sent },
+    ghost limited: { sent ≤ 2 ^ 40 },
+    ghost ordered: { laid 0 (claims table) sent ≡ true },
+    ghost marked: { duplicates ≤ spent-of (claims table) },
+}
+
+pub type FinishedSender<C, N> = Sender<C, N, Finished>;
