@@ -9,7 +9,8 @@ use lib.Dec.{ltb, leb}
 use Rattle.std.proofs.shelf.Tests.{and-cases, ltb-false, leb-false}
 use Rattle.congestion.specs.Choice.{choice}
 use Rattle.congestion.specs.Repeat.{times, times-keeps}
-use Rattle.congestion.specs.Growths.{rounded-up, limit, at, counted, wider, fill, missing, widens, carried, Bounded}
+use Rattle.congestion.specs.AtOnce.{missing, widens, carried}
+use Rattle.congestion.specs.Growths.{rounded-up, limit, at, counted, wider, fill, Bounded}
 use Rattle.congestion.specs.declared.growth.Growth.{Growth}
 use Rattle.congestion.specs.declared.growth.Increase.{Increase}
 use Rattle.congestion.specs.declared.growth.Increase.the-variants.{Additive, Inverse}

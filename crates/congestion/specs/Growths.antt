@@ -1,9 +1,9 @@
 -- A window that grows by a segment each time that the carry, which counts credited bytes, reaches its limit. Assumes nothing.
-use mathlib.Core.Bool.{Bool, cond, _&&_}
-use Prim.Native.Nat.{ℕ, _+_, _-_, _*_, _/_, _%_, _^_, _<_, _≤_, min}
+use mathlib.Core.Bool.{cond}
+use Prim.Native.Nat.{ℕ, _+_, _*_, _/_, _%_, _^_, _<_, _≤_, min}
 use native.Mathlib.Nat.{le-div-iff-mul-le, mul-pos}
 use native.Mathlib.Omega.{arith}
-use lib.Dec.{ltb, leb}
+use lib.Dec.{ltb}
 use Rattle.congestion.specs.Choice.{choice}
 use Rattle.congestion.specs.declared.growth.Growth.{Growth}
 use Rattle.congestion.specs.declared.growth.Increase.{Increase}
@@ -38,18 +38,6 @@ module _ (i : Increase) where
   -- one credited byte
   abbrev pub fill : Growth → Growth
   fill g = cond (ltb (g .carry + 1) (limit i (g .segment) (g .window))) (counted g) (wider g)
-
-  -- the bytes that the carry is short of its limit
-  abbrev pub missing : Growth → ℕ
-  missing g = limit i (g .segment) (g .window) - g .carry
-
-  -- n bytes widen the window: they are enough, and it can be wider
-  abbrev pub widens : Growth → ℕ → Bool
-  widens g n = ltb (g .window) (2 ^ 24) && leb (missing g) n
-
-  -- n bytes more in the carry, which goes round at its limit
-  abbrev pub carried : Growth → ℕ → Growth
-  carried g n = at g (g .window) ((g .carry + n % limit i (g .segment) (g .window)) % limit i (g .segment) (g .window))
 
   -- what a controller of this kind keeps: a segment has 64 to 9000 bytes, the window a segment to 2^24, and the carry is below its limit
   abbrev pub Bounded : Growth → Type 0

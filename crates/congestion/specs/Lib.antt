@@ -7,3 +7,4 @@ pub mod Growths
 pub mod RenoRules
 pub mod IiadRules
 pub mod Layers
+pub mod AtOnce

@@ -1,7 +1,7 @@
 -- Reno by bytes. Assumes nothing.
 use mathlib.Core.Bool.{cond}
 use mathlib.Core.Path.{_≡_}
-use Prim.Native.Nat.{ℕ, _+_, _-_, _*_, _/_, _^_, _≤_, min, max}
+use Prim.Native.Nat.{ℕ, _+_, _*_, _/_, _^_, _≤_, min, max}
 use native.Mathlib.Omega.{arith}
 use lib.Dec.{ltb}
 use Rattle.congestion.specs.Choice.{choice}
@@ -66,14 +66,6 @@ reno = record {
   loss = λ s f. record { growth = lost s f; threshold = halved (s .growth .segment) f; bounded = lost-bounded s f; limited = halved-limited (s .growth .segment) f };
   timeout = λ s f. record { growth = timed-out s; threshold = halved (s .growth .segment) f; bounded = timed-out-bounded s; limited = halved-limited (s .growth .segment) f };
 }
-
--- how many of n bytes climb to the threshold
-abbrev pub climbing : Reno → ℕ → ℕ
-climbing s n = min n (s .threshold - s .growth .window)
-
--- n bytes at once: those that climb, and then the others
-abbrev pub at-once : Reno → ℕ → Growth
-at-once s n = times (n - climbing s n) (fill Additive) (at (s .growth) (s .growth .window + climbing s n) (s .growth .carry))
 
 -- a new Reno, with no threshold below the widest window
 abbrev pub RenoStarts : ℕ → Result Reno ControllerFault → Type 0

@@ -1,7 +1,8 @@
 ghost use mathlib.Core.Path.{_≡_};
 ghost use Prim.Native.Nat.{_^_, _≤_};
 ghost use Rattle.congestion.specs.Repeat.{times};
-ghost use Rattle.congestion.specs.Growths.{limit, fresh, missing, widens, wider, carried, fill, Bounded};
+ghost use Rattle.congestion.specs.AtOnce.{missing, widens, carried};
+ghost use Rattle.congestion.specs.Growths.{limit, fresh, wider, fill, Bounded};
 use crate::controller::WIDEST;
 
 /// How many credited bytes widen the window by a segment.

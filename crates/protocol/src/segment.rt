@@ -16,21 +16,21 @@ pub struct Segment {
 impl Segment {
     /// Whether it starts below an end.
     pub fn begun_before(&self, end: u64) -> bool
-        ensures { λ r. ⌜ r ≡ «begun-before» end (now (self .entry)) ⌝ }
+        ensures { λ r. ⌜ r ≡ begun-before end (now (self .entry)) ⌝ }
     {
         self.start < end
     }
 
     /// Whether all of it lies below an end. The sum of start and length might not fit, so it is not made.
     pub fn ends_by(&self, end: u64) -> bool
-        ensures { λ r. ⌜ r ≡ «ends-by» end (now (self .entry)) ⌝ }
+        ensures { λ r. ⌜ r ≡ ends-by end (now (self .entry)) ⌝ }
     {
         self.start <= end && self.length as u64 <= end - self.start
     }
 
     /// Whether it starts beyond an end and its single nonce is the echo.
     pub fn echoed_past(&self, end: u64, echo: u64) -> bool
-        ensures { λ r. ⌜ r ≡ «echoed-past» end echo (now (self .entry)) ⌝ }
+        ensures { λ r. ⌜ r ≡ echoed-past end echo (now (self .entry)) ⌝ }
     {
         end < self.start && self.single == echo
     }

@@ -1,7 +1,10 @@
--- A sender, read as a state of the rules. Assumes nothing.
+-- A sender, read as a state of the rules, and what it means that a call keeps them. Assumes nothing.
+use mathlib.Core.Path.{_≡_}
 use mathlib.Core.List.{List}
 use Prim.Native.Nat.{ℕ}
-use Rattle.protocol.specs.Calls.{State}
+use Rattle.congestion.specs.Control.{Control}
+use Rattle.protocol.specs.Calls.{State, Call, Answer}
+use Rattle.protocol.specs.SenderRules.{reply}
 use Rattle.sender.specs.Tables.{claims}
 use Rattle.sender.specs.declared.sender.Sender.{Sender}
 
@@ -17,3 +20,7 @@ view words s = record {
   duplicates = s .duplicates;
   due = s .«repeat_due»;
 }
+
+-- under the control k, a call on the sender s has this answer and leaves the sender t, as the rules say
+abbrev pub Replies : {C N S : Type 0} → Control C → (N → List ℕ) → Sender C N S → Call → Answer → Sender C N S → Type 0
+Replies k words s call answer t = reply k (view words s) call ≡ record { answer = answer; state = view words t }

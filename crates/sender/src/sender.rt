@@ -39,9 +39,13 @@ pub struct Sender<C: Controller, N: NonceSource, S = Sending> {
     duplicates: u32,
     repeat_due: bool,
     stage: S,
+    // what always holds: an end is proved of bytes that were sent
     ghost within: { proved ≤ sent },
+    // the stream has at most 2^40 bytes
     ghost limited: { sent ≤ 2 ^ 40 },
+    // the claims lie one after another in the stream, and none is empty
     ghost ordered: { laid 0 (claims table) sent ≡ true },
+    // each duplicate has marked a claim of its own
     ghost marked: { duplicates ≤ spent-of (claims table) },
 }
 

@@ -20,7 +20,7 @@ pub enum Echo {
 
 /// The nonces of the claims begun before an end, added to a sum modulo 2^64.
 pub(crate) fn sum_before(claims: &[Claim], end: u64, settled: u64) -> u64
-    ensures { λ r. ⌜ r ≡ (settled + «sum-of» (on («begun-before» end)) nonce (now (claims .entry))) % 2 ^ 64 ⌝ }
+    ensures { λ r. ⌜ r ≡ (settled + sum-of (on (begun-before end)) nonce (now (claims .entry))) % 2 ^ 64 ⌝ }
 {
     let mut sum = settled;
     for claim in claims {

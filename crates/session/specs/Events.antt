@@ -1,5 +1,7 @@
 -- What an event does to a panel, by the rules of the sender. Assumes nothing.
+use mathlib.Core.List.{List}
 use Prim.Native.Nat.{ℕ}
+use lib.Chars.{codes}
 use Rattle.std.specs.declared.option.Option.{Option}
 use Rattle.std.specs.declared.option.Option.the-variants.{Some, None}
 use Rattle.fault.specs.Refusals.{Refusal}
@@ -10,6 +12,13 @@ use Rattle.protocol.specs.Calls.Answer.{sent, advanced, counted, lost, expired,
 use Rattle.protocol.specs.SenderRules.{reply}
 use Rattle.session.specs.declared.events.Event.{Event}
 use Rattle.session.specs.declared.events.Event.the-variants.{Send, Acknowledge, Timeout, Again}
+
+-- the word of an event in the listing
+abbrev pub listing-word : Event → List ℕ
+listing-word (Send length) = codes "send"
+listing-word (Acknowledge end sum echo) = codes "ack"
+listing-word Timeout = codes "time"
+listing-word Again = codes "again"
 
 -- whether it was refused, and the state that it leaves
 pub record Outcome (C : Type 0) : Type 0 where

@@ -1,7 +1,7 @@
 ghost use mathlib.Core.Path.{_≡_};
 ghost use Rattle.protocol.specs.Answers.{refusal-in};
 ghost use Rattle.sender.specs.Views.{view};
-ghost use Rattle.session.specs.Events.{Outcome, outcome};
+ghost use Rattle.session.specs.Events.{listing-word, outcome};
 use congestion::controller::Controller;
 use nonce::source::NonceSource;
 use protocol::faults::SenderFault;
@@ -18,7 +18,10 @@ pub enum Event {
 }
 
 impl Event {
-    pub fn word(&self) -> &'static str {
+    /// Its word in the listing.
+    pub fn word(&self) -> &'static str
+        ensures { λ r. ⌜ now r ≡ listing-word (now (self .entry)) ⌝ }
+    {
         match self {
             Event::Send { .. } => "send",
             Event::Acknowledge { .. } => "ack",
@@ -32,7 +35,7 @@ impl Event {
         &self,
         panel: &mut Sender<C, N>,
     ) -> Result<(), SenderFault>
-        ensures { λ r. ⌜ outcome (C·Controller .control) (view (N·NonceSource .words) (now (panel .entry))) (now (self .entry)) ≡ record { refusal = «refusal-in» r; state = view (N·NonceSource .words) (now (panel .exit)) } ⌝ }
+        ensures { λ r. ⌜ outcome (C·Controller .control) (view (N·NonceSource .words) (now (panel .entry))) (now (self .entry)) ≡ record { refusal = refusal-in r; state = view (N·NonceSource .words) (now (panel .exit)) } ⌝ }
     {
         match *self {
             Event::Send { length } => {

@@ -1,6 +1,7 @@
 ghost use mathlib.Core.Path.{_≡_};
 ghost use Prim.Native.Nat.{_≤_};
-ghost use Rattle.congestion.specs.RenoRules.{reno, halved, climbing, at-once, lost, timed-out, RenoStarts};
+ghost use Rattle.congestion.specs.AtOnce.{climbing, at-once};
+ghost use Rattle.congestion.specs.RenoRules.{reno, halved, lost, timed-out, RenoStarts};
 use super::Reno;
 use crate::controller::Controller;
 use crate::controller::WIDEST;

@@ -1,9 +1,7 @@
-ghost use mathlib.Core.Path.{_≡_};
-ghost use Rattle.protocol.specs.Calls.Call.{take as take-of, repeat as repeat-of};
-ghost use Rattle.protocol.specs.SenderRules.{reply};
-ghost use Rattle.protocol.specs.Answers.{told, to-repeat};
+ghost use Rattle.protocol.specs.Calls.{Call};
+ghost use Rattle.protocol.specs.Answers.{to-repeat};
 ghost use Rattle.sender.specs.Orders.{to-take};
-ghost use Rattle.sender.specs.Views.{view};
+ghost use Rattle.sender.specs.Views.{Replies};
 use super::Sender;
 use crate::order::Order;
 use crate::walks::find_start;
@@ -16,7 +14,7 @@ use protocol::segment::Segment;
 impl<C: Controller, N: NonceSource, S> Sender<C, N, S> {
     /// Takes the order to repeat the oldest outstanding segment; then no repeat is due.
     pub fn take(&mut self) -> Result<Order, SenderFault>
-        ensures { λ r. ⌜ reply (C·Controller .control) (view (N·NonceSource .words) (now (self .entry))) «take-of» ≡ told («to-take» r) (view (N·NonceSource .words) (now (self .exit))) ⌝ }
+        ensures { λ r. ⌜ Replies (C·Controller .control) (N·NonceSource .words) (now (self .entry)) Call.take (to-take r) (now (self .exit)) ⌝ }
     {
         if !self.repeat_due {
             let sent = self.sent;
@@ -28,7 +26,7 @@ impl<C: Controller, N: NonceSource, S> Sender<C, N, S> {
 
     /// Spends an order: the same segment again, unless it has been acknowledged meanwhile.
     pub fn repeat(&self, order: Order) -> Result<Segment, SenderFault>
-        ensures { λ r. ⌜ reply (C·Controller .control) (view (N·NonceSource .words) (now (self .entry))) («repeat-of» (order .start)) ≡ told («to-repeat» r) (view (N·NonceSource .words) (now (self .entry))) ⌝ }
+        ensures { λ r. ⌜ Replies (C·Controller .control) (N·NonceSource .words) (now (self .entry)) (Call.repeat (order .start)) (to-repeat r) (now (self .entry)) ⌝ }
     {
         let start = order.spend();
         match find_start(self.table.claims(), start) {

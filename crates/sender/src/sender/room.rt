@@ -16,14 +16,14 @@ impl<C: Controller, N: NonceSource, S> Sender<C, N, S> {
 
     /// How many bytes may be in flight: the window, and a segment more for each duplicate.
     pub fn allowance(&self) -> u64
-        ensures { λ r. ⌜ r ≡ «allowance-by-rule» (C·Controller .control) (view (N·NonceSource .words) (now (self .entry))) ⌝ }
+        ensures { λ r. ⌜ r ≡ allowance-by-rule (C·Controller .control) (view (N·NonceSource .words) (now (self .entry))) ⌝ }
     {
         self.window() as u64 + self.controller.segment() as u64 * self.duplicates as u64
     }
 
     /// The bytes sent and not yet acknowledged.
     pub fn in_flight(&self) -> u64
-        ensures { λ r. ⌜ r ≡ «in-flight» (view (N·NonceSource .words) (now (self .entry))) ⌝ }
+        ensures { λ r. ⌜ r ≡ in-flight (view (N·NonceSource .words) (now (self .entry))) ⌝ }
     {
         self.sent - self.proved
     }

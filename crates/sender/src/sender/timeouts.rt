@@ -1,8 +1,6 @@
-ghost use mathlib.Core.Path.{_≡_};
-ghost use Rattle.protocol.specs.Calls.Call.{timeout as timeout-of};
-ghost use Rattle.protocol.specs.SenderRules.{reply};
-ghost use Rattle.protocol.specs.Answers.{told, to-timeout};
-ghost use Rattle.sender.specs.Views.{view};
+ghost use Rattle.protocol.specs.Calls.{Call};
+ghost use Rattle.protocol.specs.Answers.{to-timeout};
+ghost use Rattle.sender.specs.Views.{Replies};
 use super::Sender;
 use congestion::controller::Controller;
 use nonce::source::NonceSource;
@@ -11,7 +9,7 @@ use protocol::faults::SenderFault;
 impl<C: Controller, N: NonceSource, S> Sender<C, N, S> {
     /// Nothing came back in time: the controller is told, and a repeat is due.
     pub fn timeout(&mut self) -> Result<(), SenderFault>
-        ensures { λ r. ⌜ reply (C·Controller .control) (view (N·NonceSource .words) (now (self .entry))) «timeout-of» ≡ told («to-timeout» r) (view (N·NonceSource .words) (now (self .exit))) ⌝ }
+        ensures { λ r. ⌜ Replies (C·Controller .control) (N·NonceSource .words) (now (self .entry)) Call.timeout (to-timeout r) (now (self .exit)) ⌝ }
     {
         let in_flight = self.in_flight();
         if in_flight == 0 {

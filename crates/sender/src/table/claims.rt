@@ -55,8 +55,8 @@ impl<const ROOM: usize> Table<ROOM> {
 
     /// Frees the places of the claims that end by an end, and adds their nonces to a sum modulo 2^64.
     pub(crate) fn retire(&mut self, end: u64, settled: u64) -> u64
-        ensures left { λ _. ⌜ claims (now (self .exit)) ≡ «kept-by» (on («ends-past» end)) (claims (now (self .entry))) ⌝ }
-        ensures sum { λ r. ⌜ r ≡ (settled + «sum-of» (on («ends-by» end)) nonce (claims (now (self .entry)))) % 2 ^ 64 ⌝ }
+        ensures left { λ _. ⌜ claims (now (self .exit)) ≡ kept-by (on (ends-past end)) (claims (now (self .entry))) ⌝ }
+        ensures sum { λ r. ⌜ r ≡ (settled + sum-of (on (ends-by end)) nonce (claims (now (self .entry)))) % 2 ^ 64 ⌝ }
     {
         let mut sum = settled;
         let mut place = 0;

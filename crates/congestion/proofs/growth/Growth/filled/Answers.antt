@@ -4,7 +4,8 @@ use Prim.Native.Nat.{_-_, _^_}
 use lib.Dec.{ltb, leb}
 use Rattle.std.proofs.shelf.Tests.{and-parts, leb-true}
 use Rattle.congestion.specs.Repeat.{times, times-keeps}
-use Rattle.congestion.specs.Growths.{fill, missing, Bounded, fill-bounded}
+use Rattle.congestion.specs.AtOnce.{missing}
+use Rattle.congestion.specs.Growths.{fill, Bounded, fill-bounded}
 use Rattle.congestion.proofs.Fillings.{not-widened, carries, widens-first}
 use Rattle.congestion.proofs.growth.Growth.filled.Needs as need
 
