@@ -12,7 +12,7 @@ pub enum ControllerFault {
 }
 
 pub impl Fault for ControllerFault as ControllerRefusal {
-    ghost layered = { Controller };
+    ghost origin = { Controller };
 
     ghost refusal = { meaning };
 

@@ -8,5 +8,3 @@ pub mod iiad;
 pub mod reno;
 pub mod share;
 mod starts;
-#[cfg(test)]
-mod tests;

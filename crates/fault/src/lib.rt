@@ -17,14 +17,14 @@ pub enum Place {
     Between(u64, u64),
 }
 
-/// A refusal of some layer. What it means, its number and its places, is `refusal`.
+/// A refusal of the layer `origin`; `refusal` is what it means, its number and its places.
 pub trait Fault {
-    ghost layered: { Layer };
+    ghost origin: { Layer };
 
     ghost refusal: { Self → Refusal };
 
     fn layer(&self) -> Layer
-        ensures { λ r. ⌜ r ≡ layered ⌝ };
+        ensures { λ r. ⌜ r ≡ origin ⌝ };
 
     fn number(&self) -> u8
         ensures { λ r. ⌜ r ≡ refusal (now (self .entry)) .number ⌝ };

@@ -1,5 +1,3 @@
 pub mod recorded;
 pub mod source;
 pub mod splitmix;
-#[cfg(test)]
-mod tests;

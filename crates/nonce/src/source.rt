@@ -30,7 +30,7 @@ pub enum NonceFault {
 }
 
 pub impl Fault for NonceFault as NonceRefusal {
-    ghost layered = { Layer.NonceSource };
+    ghost origin = { Layer.NonceSource };
 
     ghost refusal = { refusal };
 

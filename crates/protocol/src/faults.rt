@@ -36,7 +36,7 @@ pub enum SenderFault {
 }
 
 pub impl Fault for SenderFault as SenderRefusal {
-    ghost layered = { Sender };
+    ghost origin = { Sender };
 
     ghost refusal = { refusal };
 

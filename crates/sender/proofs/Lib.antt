@@ -1,5 +1,0 @@
-pub mod Tables
-pub mod Echoes
-pub mod Retiring
-pub mod Laid
-pub mod Sends

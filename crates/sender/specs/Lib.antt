@@ -1,5 +1,2 @@
-pub mod Tables
-pub mod Walks
-pub mod Laid
 pub mod Orders
 pub mod Views

@@ -5,7 +5,7 @@ use Prim.Native.Nat.{ℕ}
 use Rattle.congestion.specs.Control.{Control}
 use Rattle.protocol.specs.Calls.{State, Call, Answer}
 use Rattle.protocol.specs.SenderRules.{reply}
-use Rattle.sender.specs.Tables.{claims}
+use Rattle.claims.specs.Tables.{claims}
 use Rattle.sender.specs.declared.sender.Sender.{Sender}
 
 -- by the words that its nonce source still has

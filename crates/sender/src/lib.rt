@@ -1,4 +1,2 @@
 pub mod order;
 pub mod sender;
-mod table;
-mod walks;

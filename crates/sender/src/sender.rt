@@ -1,9 +1,9 @@
 ghost use mathlib.Core.Bool.{true};
 ghost use mathlib.Core.Path.{_≡_};
 ghost use Prim.Native.Nat.{_^_, _≤_};
-ghost use Rattle.sender.specs.Laid.{laid, spent-of};
-ghost use Rattle.sender.specs.Tables.{claims};
-use crate::table::Table;
+ghost use Rattle.claims.specs.Laid.{laid, spent-of};
+ghost use Rattle.claims.specs.Tables.{claims};
+use claims::table::Table;
 use congestion::controller::Controller;
 use nonce::source::NonceSource;
 

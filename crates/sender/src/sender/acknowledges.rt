@@ -5,13 +5,10 @@ ghost use lib.ListN.{length, getD};
 ghost use Rattle.protocol.specs.Calls.{Call};
 ghost use Rattle.protocol.specs.SenderRules.{after-advance, after-duplicate, duplicate-counted};
 ghost use Rattle.protocol.specs.Answers.{told, to-acknowledge, progress};
-ghost use Rattle.sender.specs.Tables.{claims, no-claim};
+ghost use Rattle.claims.specs.Tables.{claims, no-claim};
 ghost use Rattle.sender.specs.Views.{view, Replies};
 use super::Sender;
-use crate::table::mark_spent;
-use crate::walks::Echo;
-use crate::walks::find_echo;
-use crate::walks::sum_before;
+use claims::walks::Echo;
 use congestion::controller::Controller;
 use nonce::source::NonceSource;
 use protocol::answer::Acknowledged;
@@ -36,7 +33,7 @@ impl<C: Controller, N: NonceSource, S> Sender<C, N, S> {
         if end < self.proved {
             return Err(SenderFault::BelowProved { end });
         }
-        if sum != sum_before(self.table.claims(), end, self.settled) {
+        if sum != self.table.sum_before(end, self.settled) {
             let proved = self.proved;
             return Err(SenderFault::WrongSum { proved, end });
         }
@@ -44,7 +41,7 @@ impl<C: Controller, N: NonceSource, S> Sender<C, N, S> {
             self.advance(end);
             return Ok(Acknowledged::Advanced);
         }
-        match find_echo(self.table.claims(), self.proved, echo) {
+        match self.table.find_echo(self.proved, echo) {
             Echo::Unknown => Err(SenderFault::UnknownEcho { end }),
             Echo::Spent => Err(SenderFault::SpentEcho { end }),
             Echo::Unspent(place) => Ok(self.count_duplicate(place)),
@@ -85,7 +82,7 @@ impl<C: Controller, N: NonceSource, S> Sender<C, N, S> {
         ensures state { λ r. ⌜ view (N·NonceSource .words) (now (self .exit)) ≡ after-duplicate (C·Controller .control) (view (N·NonceSource .words) (now (self .entry))) r false ⌝ }
     {
         let start = self.table.claims()[place].segment.start;
-        mark_spent(&mut self.table, place);
+        self.table.mark_spent(place);
         self.duplicates += 1;
         start
     }

@@ -5,7 +5,7 @@ use super::Finished;
 use super::FinishedSender;
 use super::Sender;
 use super::Sending;
-use crate::table::Table;
+use claims::table::Table;
 use congestion::controller::Controller;
 use nonce::source::NonceSource;
 

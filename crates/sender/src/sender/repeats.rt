@@ -4,8 +4,6 @@ ghost use Rattle.sender.specs.Orders.{to-take};
 ghost use Rattle.sender.specs.Views.{Replies};
 use super::Sender;
 use crate::order::Order;
-use crate::walks::find_start;
-use crate::walks::oldest_start;
 use congestion::controller::Controller;
 use nonce::source::NonceSource;
 use protocol::faults::SenderFault;
@@ -21,7 +19,7 @@ impl<C: Controller, N: NonceSource, S> Sender<C, N, S> {
             return Err(SenderFault::NoRepeatDue { sent });
         }
         self.repeat_due = false;
-        Ok(Order::new(oldest_start(self.table.claims())))
+        Ok(Order::new(self.table.oldest_start()))
     }
 
     /// Spends an order: the same segment again, unless it has been acknowledged meanwhile.
@@ -29,7 +27,7 @@ impl<C: Controller, N: NonceSource, S> Sender<C, N, S> {
         ensures { λ r. ⌜ Replies (C·Controller .control) (N·NonceSource .words) (now (self .entry)) (Call.repeat (order .start)) (to-repeat r) (now (self .entry)) ⌝ }
     {
         let start = order.spend();
-        match find_start(self.table.claims(), start) {
+        match self.table.find_start(start) {
             Some(segment) => Ok(segment),
             None => Err(SenderFault::ClaimGone { start }),
         }

@@ -3,8 +3,8 @@ use native.Mathlib.Omega.{arith}
 use lib.ListN.{getD, length-take}
 use borrow.Author.Needs.{needs}
 use Rattle.protocol.specs.Claims.{spend}
-use Rattle.sender.specs.Tables.{claims, no-claim}
-use Rattle.sender.proofs.Laid.{laid-marked, spend-set, spent-few, spent-set}
+use Rattle.claims.specs.Tables.{claims, no-claim}
+use Rattle.claims.proofs.Laid.{laid-marked, spend-set, spent-few, spent-set}
 use Rattle.sender.proofs.sender.Sender.spend.Needs as need
 
 pub add-self : need.add-self
@@ -25,6 +25,6 @@ returns g c =
     let s = c .args .self .now in
     let i = c .args .place in
     let by-start = spend-set 0 (claims (s .table)) (s .sent) i (s .ordered) (c .pre .0) in
-    let spent : claims (c .mark-spent .last .table) ≡ spend (getD (c .claims .result .now) i no-claim .segment .start) (claims (s .table)) =
+    let spent : claims (c .mark-spent .last .self) ≡ spend (getD (c .claims .result .now) i no-claim .segment .start) (claims (s .table)) =
     c .mark-spent .ensures ∙ sym by-start ∙ ap (λ cs. spend (getD cs i no-claim .segment .start) (claims (s .table))) (sym (c .claims .ensures)) in
     record { start = search needs; state = search needs }

@@ -1,0 +1,4 @@
+pub mod Tables
+pub mod Echoes
+pub mod Retiring
+pub mod Laid
