@@ -3,7 +3,7 @@ use mathlib.Core.Path.{_≡_}
 use mathlib.Core.Bool.{true, false}
 use mathlib.Core.List.{List}
 use Prim.Native.Nat.{ℕ, _<_}
-use lib.ListN.{length, getD}
+use lib.ListN.{length, getD, take}
 use Rattle.std.specs.declared.option.Option.{Option}
 use Rattle.std.specs.declared.option.Option.the-variants.{Some, None}
 use Rattle.protocol.specs.declared.segment.Segment.{Segment}
@@ -19,6 +19,7 @@ use Rattle.claims.specs.declared.walks.Echo.the-variants.{Unknown, Spent, Unsp
 pub record OldestAt (e x : ℕ) (cs : List Claim) (i : ℕ) : Type 0 where
   pub within : i < length cs
   pub passes : unspent e x (getD cs i no-claim) ≡ true
+  pub first : any (unspent e x) (take i cs) ≡ false
   pub known : any (on (echoed-past e x)) cs ≡ true
   pub some : any (unspent e x) cs ≡ true
   pub start : oldest (unspent e x) cs ≡ getD cs i no-claim .segment .start

@@ -1,8 +1,6 @@
-use mathlib.Core.Path.{ap, _∙_}
 use Prim.Native.Nat.{zero-le}
 use Rattle.protocol.specs.Claims.{on}
 use Rattle.protocol.specs.Segments.{ends-past}
-use Rattle.claims.specs.Laid.{laid}
 use Rattle.claims.specs.Tables.{claims}
 use Rattle.claims.proofs.Laid.{laid-kept}
 use Rattle.sender.proofs.sender.Sender.advance.Needs as need
@@ -11,4 +9,4 @@ pub ghost-self : need.ghost-self
 ghost-self g c =
     let s = c .args .self .now in
     let ordered = laid-kept (on (ends-past (c .args .end))) 0 (claims (s .table)) (s .sent) (s .ordered) in
-    (c .pre .1, (s .limited, (ap (λ cs. laid 0 cs (s .sent)) (c .retire-self .ensures .left) ∙ ordered, (zero-le, tt))))
+    (c .pre .1, (s .limited, (rw (c .retire-self .ensures .left) ordered, (zero-le, tt))))
