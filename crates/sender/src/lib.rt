@@ -1,2 +1,4 @@
+//! The sending end of the link.
+
 pub mod order;
 pub mod sender;
