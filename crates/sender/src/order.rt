@@ -12,14 +12,7 @@ impl Order {
         Order { start }
     }
 
-    /// Where the segment to repeat begins.
-    pub fn start(&self) -> u64
-        ensures { λ r. ⌜ r ≡ now (self .entry) .start ⌝ }
-    {
-        self.start
-    }
-
-    /// Ends the order.
+    /// Ends the order, and tells the start that it named.
     pub(crate) fn spend(self) -> u64
         ensures { λ r. ⌜ r ≡ self .start ⌝ }
     {

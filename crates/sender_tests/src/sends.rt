@@ -56,7 +56,7 @@ fn allowance() -> Result<(), Fail> {
     for _ in 0..4 {
         sender.send(1000)?;
     }
-    check_eq(sender.in_flight(), 4000)?;
+    check_eq(sender.sent(), 4000)?;
     check_eq(sender.allowance(), 4000)?;
     // no word is left either, but the allowance is told first
     check_eq(sender.send(1), Err(SenderFault::Allowance { sent: 4000 }))

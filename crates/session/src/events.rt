@@ -45,11 +45,17 @@ impl Event {
                 panel.acknowledge(end, sum, echo)?;
             }
             Event::Timeout => panel.timeout()?,
-            Event::Again => {
-                let order = panel.take()?;
-                panel.repeat(order)?;
-            }
+            Event::Again => again(panel)?,
         }
         Ok(())
     }
+}
+
+/// Takes a due repeat and repeats it.
+fn again<C: Controller, N: NonceSource>(panel: &mut Sender<C, N>) -> Result<(), SenderFault>
+    ensures { λ r. ⌜ outcome (C·Controller .control) (view (N·NonceSource .words) (now (panel .entry))) Event.Again ≡ record { refusal = refusal-in r; state = view (N·NonceSource .words) (now (panel .exit)) } ⌝ }
+{
+    let order = panel.take()?;
+    panel.repeat(order)?;
+    Ok(())
 }

@@ -100,14 +100,10 @@ fn print_line(
     let proved = panel.proved();
     let window = panel.window();
     let allowance = panel.allowance();
+    print!(rt, "{number} {word} ")?;
     match outcome {
-        Ok(()) => println!(rt, "{number} {word} ok {proved} {window} {allowance}"),
-        Err(fault) => {
-            let refusal = fault.number();
-            println!(
-                rt,
-                "{number} {word} {refusal} {proved} {window} {allowance}"
-            )
-        }
+        Ok(()) => print!(rt, "ok")?,
+        Err(fault) => rt.print(fault.number())?,
     }
+    println!(rt, " {proved} {window} {allowance}")
 }

@@ -21,8 +21,8 @@ impl<C: Controller, N: NonceSource, S> Sender<C, N, S> {
         self.window() as u64 + self.controller.segment() as u64 * self.duplicates as u64
     }
 
-    /// The bytes sent and not yet acknowledged.
-    pub fn in_flight(&self) -> u64
+    // The bytes sent and not yet acknowledged.
+    pub(super) fn in_flight(&self) -> u64
         ensures { λ r. ⌜ r ≡ in-flight (view (N·NonceSource .words) (now (self .entry))) ⌝ }
     {
         self.sent - self.proved
