@@ -1,5 +1,4 @@
 -- What the answers of the sender's calls stand for in the rules. Assumes nothing.
-use Prim.Native.Nat.{ℕ}
 use Rattle.std.specs.declared.option.Option.{Option}
 use Rattle.std.specs.declared.option.Option.the-variants.{Some, None}
 use Rattle.std.specs.declared.result.Result.{Result}

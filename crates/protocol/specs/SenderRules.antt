@@ -13,7 +13,7 @@ use Rattle.protocol.specs.Lists.{any, sum-of, kept-by}
 use Rattle.protocol.specs.Segments.{begun-before, ends-by, ends-past, starts-at, echoed-past}
 use Rattle.protocol.specs.Claims.{claim-for, on, nonce, unspent, oldest, segment-at, spend}
 use Rattle.protocol.specs.Checks.{Check, refuse, first-refusal}
-use Rattle.protocol.specs.Calls.{State, Call, Answer, Reply}
+use Rattle.protocol.specs.Calls.{State, Call, Reply}
 use Rattle.protocol.specs.Calls.Call.{send, acknowledge, timeout, take, repeat}
 use Rattle.protocol.specs.Calls.Answer.{sent, advanced, counted, lost, expired, ordered, repeated, refused}
 

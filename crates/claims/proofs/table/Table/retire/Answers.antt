@@ -1,5 +1,4 @@
 use Prim.Native.Nat.{_<_}
-use native.Mathlib.Omega.{arith}
 use lib.ListN.{length}
 use borrow.Author.Needs.{needs}
 use Rattle.claims.proofs.Retiring.{goes, stays}

@@ -1,6 +1,5 @@
 -- A share keeps the laws of a controller. Assumes nothing.
-use Prim.Native.Nat.{_^_, _≤_, min, max}
-use mathlib.Core.Path.{refl}
+use Prim.Native.Nat.{_≤_, min, max}
 use native.Mathlib.Nat.{mul-le-mul, mul-le-mul-right}
 use native.Mathlib.Omega.{arith}
 use Rattle.congestion.proofs.share.ShareController.the-impl.Needs as need
