@@ -1,4 +1,6 @@
 //! The table of claims that a sender holds: its outstanding segments, the oldest first.
 
+#![tactic(auto)]
+
 pub mod table;
 pub mod walks;

@@ -1,5 +1,7 @@
 //! Congestion controllers: how many bytes a sender may have in flight.
 
+#![tactic(auto)]
+
 pub mod cap;
 pub mod controller;
 pub mod faults;

@@ -1,5 +1,7 @@
 //! Shows an order that is put back, taken again and repeated.
 
+#![tactic(auto)]
+
 mod orders;
 
 use congestion::controller::Controller;

@@ -11,7 +11,7 @@ use Rattle.claims.specs.Tables.{claims}
 use Rattle.sender.specs.declared.sender.Sender.{Sender}
 
 -- by the words that its nonce source still has
-abbrev pub view : {C N S : Type 0} → (N → List ℕ) → Sender C N S → State C
+abbrev pub view : {C N S : Type 0} {c : _} {n : _} → (N → List ℕ) → Sender C N S c n → State C
 view words s = record {
   control = s.controller;
   words = words s.nonces;
@@ -53,5 +53,5 @@ freed s e = record {
 }
 
 -- under the control k, a call on the sender s has this answer and leaves the sender t, as the rules say
-abbrev pub Replies : {C N S : Type 0} → Control C → (N → List ℕ) → Sender C N S → Call → Answer → Sender C N S → Type 0
+abbrev pub Replies : {C N S : Type 0} {c : _} {n : _} → Control C → (N → List ℕ) → Sender C N S c n → Call → Answer → Sender C N S c n → Type 0
 Replies k words s call answer t = reply k (view words s) call ≡ record { answer = answer; state = view words t }

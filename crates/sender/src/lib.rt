@@ -1,4 +1,6 @@
 //! The sending end of the link.
 
+#![tactic(auto)]
+
 pub mod order;
 pub mod sender;

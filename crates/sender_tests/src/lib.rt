@@ -1,5 +1,7 @@
 //! Examples of the sender's calls, as tests; in a crate of their own, so that the sender is proved without them.
 
+#![tactic(auto)]
+
 #[cfg(test)]
 mod acknowledgements;
 #[cfg(test)]

@@ -1,5 +1,7 @@
 //! Plays one panel session, from the first send to the last acknowledgement, and prints a line for each event.
 
+#![tactic(auto)]
+
 mod events;
 
 use congestion::cap::Cap;

@@ -7,4 +7,9 @@ use Rattle.sender.proofs.sender.Sender.free_claims.Goals as goal
 pub invariant_of-self : goal.invariant_of-self
 invariant_of-self g c =
     let s = c.args.self.now in
-    (c.requires.within, (s.limited, (rw c.retire-self.ensures.left (laid_kept _ 0 (claims s.table) s.sent s.ordered), (omega (arith, c.requires.none), tt))))
+    record {
+      within = c.requires.within;
+      limited = s.limited;
+      ordered = rw c.retire-self.ensures.left (laid_kept _ 0 (claims s.table) s.sent s.ordered);
+      marked = omega (arith, c.requires.none);
+    }

@@ -15,7 +15,12 @@ invariant_of-self g c =
     let cs = claims s.table in
     let i = c.args.place in
     let one_more = spent_set cs i c.requires.0 c.requires.1 in
-    (s.within, (s.limited, (rw c.mark_spent.ensures (laid_marked 0 cs s.sent i s.ordered c.requires.0), (rw c.mark_spent.ensures (omega (arith, one_more, s.marked)), tt))))
+    record {
+      within = s.within;
+      limited = s.limited;
+      ordered = rw c.mark_spent.ensures (laid_marked 0 cs s.sent i s.ordered c.requires.0);
+      marked = rw c.mark_spent.ensures (omega (arith, one_more, s.marked));
+    }
 
 pub returns : goal.returns
 returns g c =

@@ -9,7 +9,12 @@ pub invariant_of-self : goal.invariant_of-self
 invariant_of-self g c =
     let s = c.args.self.now in
     let more = entered 64 _ _ _ _ c.push.ensures.free c.push.ensures.entered c.requires.room in
-    (omega (arith, s.within), (c.requires.holds, (rw more (laid_push 0 (claims s.table) s.sent _ s.ordered c.requires.next c.requires.some), (rw more (spent_push _ _ _ s.marked), tt))))
+    record {
+      within = omega (arith, s.within);
+      limited = c.requires.holds;
+      ordered = rw more (laid_push 0 (claims s.table) s.sent _ s.ordered c.requires.next c.requires.some);
+      marked = rw more (spent_push _ _ _ s.marked);
+    }
 
 pub returns : goal.returns
 returns g c =
