@@ -1,5 +1,5 @@
 -- Every lawful controller keeps the promises, whatever the words and the calls. Assumes nothing.
-use Rattle.std.proofs.Common.{ℕ, List, ◌∷◌, ◌∙◌}
+use Rattle.std.proofs.Common.{ℕ, List, ◌∙◌}
 use Rattle.congestion.specs.Control.{Control, Lawful}
 use Rattle.protocol.specs.Calls.{Call, State}
 use Rattle.protocol.specs.SenderRules.{opened}

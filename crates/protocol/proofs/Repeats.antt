@@ -1,5 +1,5 @@
 -- When a repeat is due, which segment an order names, and what a repeat answers. Assumes nothing.
-use Rattle.std.proofs.Common.{◌≡◌, ℕ, ◌<◌, ◌≤◌, Bool, true, false, ◌&&◌, ◌||◌, List, [], ◌∷◌, map, Some, None, Option, sym, refl, ap, ◌∙◌, subst, arith}
+use Rattle.std.proofs.Common.{◌≡◌, ℕ, Bool, true, false, List, [], ◌∷◌, map, Some, None, Option, sym, refl, ap, ◌∙◌, subst, arith}
 use Rattle.std.specs.List.{ContainsAt as Has, AllByRecursion as All}
 use Rattle.std.proofs.ByRecursion.{All-map, all_has_itself}
 use Rattle.std.proofs.lemmas.Bool.{false≢true, cond_both}
@@ -16,7 +16,7 @@ use Rattle.protocol.specs.Calls.{Call, State, Reply}
 use Rattle.protocol.specs.Calls.Call.{take, repeat}
 use Rattle.protocol.specs.Calls.Answer.{ordered, repeated}
 use Rattle.protocol.specs.SenderRules.{checks, concluded, reply}
-use Rattle.protocol.specs.History.{History, noted, segments, bytes, EndToEnd}
+use Rattle.protocol.specs.History.{History, noted, segments, EndToEnd}
 use Rattle.protocol.specs.Duplicates.{starts_counted}
 use Rattle.protocol.proofs.Lists.{any_push}
 use Rattle.protocol.proofs.Filters.{leads-map, any_wider}

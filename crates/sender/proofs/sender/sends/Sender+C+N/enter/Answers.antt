@@ -1,5 +1,4 @@
-use Rattle.std.proofs.Common.{◌≡◌, [], ◌∷◌, ◌++◌, arith, rules}
-use Rattle.protocol.specs.Claims.{claim_for}
+use Rattle.std.proofs.Common.{arith, rules}
 use Rattle.claims.specs.Tables.{claims}
 use Rattle.claims.proofs.Laid.{laid_push, spent_push}
 use Rattle.claims.proofs.Tables.{entered}
