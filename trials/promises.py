@@ -86,7 +86,7 @@ def one_passes(kind, s, steps):
     return passes(solution) and not any(map(passes, others))
 
 def pool_up(pool, steps):
-    """For never-wider: the controller at first, the signals, E and the window, each time with a list that led there."""
+    """For never_wider: the controller at first, the signals, E and the window, each time with a list that led there."""
     for i, s in enumerate(steps):
         place = (s.start.control, s.history.signals, s.history.farthest, -s.after.control.window)
         if place not in pool:
@@ -97,8 +97,8 @@ def never_wider(pool):
     ordered = sorted(pool)
     return [(pool[low], pool[high]) for low, high in zip(ordered, ordered[1:]) if low[:2] == high[:2] and low[3] < high[3]]
 
-PROMISES = """no-other-refusal refusal-changes-nothing proved-is-farthest sent-is-bytes end-to-end two-words-each single-credit
-    advances-past oldest-first third-tells-loss counted-once bounded orders-the-oldest repeats-as-sent one-value""".split()
+PROMISES = """no_other_refusal refusal_changes_nothing proved_is_farthest sent_is_bytes end_to_end two_words_each single_credit
+    advances_past oldest_first third_tells_loss counted_once bounded orders_the_oldest repeats_as_sent one_value""".split()
 
 def is_broken(name, kind, steps):
-    return not one_value(kind, steps) if name == "one-value" else not all(map(getattr(Step, name.replace("-", "_")), steps))
+    return not one_value(kind, steps) if name == "one_value" else not all(map(getattr(Step, name), steps))

@@ -64,7 +64,7 @@ def search(kind, seed, count):
                 found[name] = sorted(found[name] + [(steps[0].start, [s.call for s in steps])], key=lambda f: len(f[1]))[:20]
         pool_up(pool, steps)
     pairs = never_wider(pool)
-    return {**found, "never-wider": pairs} if pairs else dict(found), made
+    return {**found, "never_wider": pairs} if pairs else dict(found), made
 
 def shrunk(name, kind, start, calls):
     """Leaves out one call after another while the promise is still broken."""

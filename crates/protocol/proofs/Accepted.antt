@@ -15,7 +15,7 @@ use Rattle.protocol.specs.Calls.Call.{send, acknowledge}
 use Rattle.protocol.specs.Calls.Answer.{sent, advanced, counted, lost}
 use Rattle.protocol.specs.SenderRules.{next, acknowledged, reply}
 use Rattle.protocol.specs.History.{History, segments, upcoming, farthest}
-use Rattle.protocol.specs.Signals.{told}
+use Rattle.protocol.specs.Signals.{signal_kind}
 use Rattle.protocol.specs.Signals.Kind.{loss}
 use Rattle.protocol.specs.Duplicates.{counted_for, starts_counted, uncounted, oldest_start, duplicates_since}
 use Rattle.protocol.proofs.ClaimTable.{Lies, claim}
@@ -36,9 +36,9 @@ counted_either : (third : Bool) (o : ℕ) → counted_for (duplicate_answer thir
 counted_either true o = refl
 counted_either false o = refl
 
-told_either : (third : Bool) (o : ℕ) → told (duplicate_answer third o) ≡ cond third (Some loss) None
-told_either true o = refl
-told_either false o = refl
+signal_kind_either : (third : Bool) (o : ℕ) → signal_kind (duplicate_answer third o) ≡ cond third (Some loss) None
+signal_kind_either true o = refl
+signal_kind_either false o = refl
 
 module _ {C : Type 0} {k : Control C} {c : C} {ws : List ℕ} {s : State C} {h : History} (i : Follows k c ws s h) where
   next_is : (l : ℕ) → next s l ≡ upcoming ws h l
@@ -69,5 +69,5 @@ module _ {C : Type 0} {k : Control C} {c : C} {ws : List ℕ} {s : State C} {h :
       pub oldest_so : counted_for (reply k s (acknowledge e m x)).answer ≡ Some (oldest_start (uncounted h x) (segments h))
       oldest_so = ap counted_for duplicate_so ∙ counted_either (eqb (duplicates_since h) 2) _
 
-      pub third_so : told (reply k s (acknowledge e m x)).answer ≡ cond (eqb (duplicates_since h) 2) (Some loss) None
-      third_so = ap told duplicate_so ∙ told_either (eqb (duplicates_since h) 2) _
+      pub third_so : signal_kind (reply k s (acknowledge e m x)).answer ≡ cond (eqb (duplicates_since h) 2) (Some loss) None
+      third_so = ap signal_kind duplicate_so ∙ signal_kind_either (eqb (duplicates_since h) 2) _

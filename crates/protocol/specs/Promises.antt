@@ -12,7 +12,7 @@ use Rattle.protocol.specs.Calls.Call.{send, acknowledge, take, repeat}
 use Rattle.protocol.specs.Calls.Answer.{sent, advanced, ordered, repeated, refused}
 use Rattle.protocol.specs.SenderRules.{allowance}
 use Rattle.protocol.specs.History.{History, segments, bytes, upcoming, EndToEnd, farthest, outstanding}
-use Rattle.protocol.specs.Signals.{told, signals, credited_once}
+use Rattle.protocol.specs.Signals.{signal_kind, signals, credited_once}
 use Rattle.protocol.specs.Signals.Kind.{loss}
 use Rattle.protocol.specs.Duplicates.{counted_for, uncounted, oldest_start, beyond, duplicates_since, Counted}
 use Rattle.protocol.specs.Grounds.{grounds}
@@ -77,7 +77,7 @@ module _ {C : Type 0} (k : Control C) (s : State C) where
     -- The third tells a loss: it does if two were counted since the last advance or timeout, and only then
     pub third_tells_loss : (calls : List Call) (e m x : ℕ) → refusal_of (answer k s calls (acknowledge e m x)) ≡ None →
         let h : History = history k s calls in
-        e ≡ farthest h → told (answer k s calls (acknowledge e m x)) ≡ cond (duplicates_since h == 2) (Some loss) None
+        e ≡ farthest h → signal_kind (answer k s calls (acknowledge e m x)) ≡ cond (duplicates_since h == 2) (Some loss) None
     -- Counted once: a segment counts for one duplicate at most, by its own echo, and only while it starts beyond E
     pub counted_once : (calls : List Call) (x : Call) (o : ℕ) → counted_for (answer k s calls x) ≡ Some o → Counted (history k s calls) x o
     -- Bounded: the allowance exceeds the window by at most one segment size for each segment that starts beyond E

@@ -10,16 +10,16 @@ pub data Kind : Type 0 where
   expiry : Kind
 
 -- the kind of signal that the controller was given with an answer
-abbrev pub told : Answer → Option Kind
-told (sent g) = None
-told advanced = None
-told (counted o) = None
-told (lost o) = Some loss
-told expired = Some expiry
-told (ordered o) = None
-told (repeated g) = None
-told (returned o) = None
-told (refused f) = None
+abbrev pub signal_kind : Answer → Option Kind
+signal_kind (sent g) = None
+signal_kind advanced = None
+signal_kind (counted o) = None
+signal_kind (lost o) = Some loss
+signal_kind expired = Some expiry
+signal_kind (ordered o) = None
+signal_kind (repeated g) = None
+signal_kind (returned o) = None
+signal_kind (refused f) = None
 
 -- a signal: its kind, and what E and the bytes sent were when it was given
 pub record Signal : Type 0 where
@@ -31,7 +31,7 @@ pub record Signal : Type 0 where
 abbrev pub signals : History → List Signal
 signals [] = []
 signals (e ∷ past) =
-    elim (told e.answer) [ None ↦ signals past | Some k ↦ record { kind = k; proved = farthest past; sent = bytes (segments past) } ∷ signals past ]
+    elim (signal_kind e.answer) [ None ↦ signals past | Some k ↦ record { kind = k; proved = farthest past; sent = bytes (segments past) } ∷ signals past ]
 
 -- E at the last signal, or 0 where there was none
 abbrev pub proved_then : List Signal → ℕ

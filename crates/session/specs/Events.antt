@@ -2,7 +2,6 @@
 use Rattle.std.specs.Prelude.{ℕ, List, Some, None, codes, Option}
 use Rattle.fault.specs.Refusals.{Refusal}
 use Rattle.congestion.specs.Control.{Control}
-pub use Rattle.protocol.specs.Calls.{refusal_of}
 use Rattle.protocol.specs.Calls.{State, Answer, Reply}
 use Rattle.protocol.specs.Calls.Call.{send, acknowledge, timeout, take, repeat}
 use Rattle.protocol.specs.Calls.Answer.{sent, advanced, counted, lost, expired, ordered, repeated, returned, refused}
@@ -21,6 +20,17 @@ listing_word Again = codes "again"
 pub record Outcome (C : Type 0) : Type 0 where
   pub refusal : Option Refusal
   pub state : State C
+
+abbrev pub refusal_of : Answer → Option Refusal
+refusal_of (sent g) = None
+refusal_of advanced = None
+refusal_of (counted o) = None
+refusal_of (lost o) = None
+refusal_of expired = None
+refusal_of (ordered o) = None
+refusal_of (repeated g) = None
+refusal_of (returned o) = None
+refusal_of (refused f) = Some f
 
 abbrev pub ended : {C : Type 0} → Reply C → Outcome C
 ended r = record { refusal = refusal_of r.answer; state = r.state }
