@@ -1,6 +1,6 @@
 #!/usr/bin/env python3
 """Tries random lists of calls on the right sender, which keeps every promise, and on each wrong one, and prints for each which
-promises some list breaks, with a short list that breaks the most telling one. It takes about a minute; the choices are seeded.
+promises some list breaks, with a short list that breaks the most telling one. It takes about four minutes; the choices are seeded.
 """
 import random
 import time
