@@ -1,0 +1,24 @@
+#!/usr/bin/env bash
+# Lists the places that a reading for plainer forms begins with, a heading for each kind; run it at the top of a checkout.
+# It finds by text, so that each place found still wants reading.
+set -eu
+src() { find crates -path '*/src/*.rt' ! -path '*_tests/*' | sort; }
+show() { # the heading; the places come by stdin
+  local places
+  places=$(cat)
+  printf '%s: %s\n' "$1" "$(printf '%s' "$places" | grep -c . || true)"
+  printf '%s\n' "$places" | sed '/^$/d; s/^/    /'
+}
+src | xargs grep -nE '^ *pub(\(crate\))? enum|^ *enum' | show '1 enums'
+src | xargs grep -nE 'fn .*-> bool|let mut [a-z_]+ = (true|false)|None => (0|false|Err\()|== 0 \{$' | show '1 flags, and numbers or errors where there is none'
+src | xargs grep -nE 'fn (number|place)\b' | show '1 numbers for refusals'
+src | xargs grep -hoE '^ *(pub(\([a-z]+\))? )?fn [a-z_]+' | sed -E 's/.*fn //' | sort | uniq -cd | sort -rn | show '2 function names that stand more than once'
+src | xargs grep -nE '^ *(for|while|loop) ' | show '3 loops'
+src | xargs grep -nE 'impl.* (PartialEq|Eq|Ord|PartialOrd|Clone|Copy|From<.*>|TryFrom<.*>|(fmt::)?(Display|Debug)) for|fn (eq|cmp|clone|copy|word|print_line|spend)\b' | show '4 comparison, copying, conversion and printing by hand'
+src | xargs grep -hoE '(requires|ensures)\*?( [a-z_]+)? \{.*\}' | sed -E 's/^(requires|ensures)\*?( [a-z_]+)? //' | sort | uniq -c | awk '$1 >= 3' | show '5 clauses that stand three times or more'
+src | xargs grep -nE '(C|N)\.(Controller|NonceSource)\.[a-z]+|view N\.' | show '5 lines whose clause hands on what a bound or a view means'
+src | xargs grep -nE 'increase: Increase|Increase::' | show '5 an increase handed along with the window that it is of'
+src | xargs grep -nE '^ +(pub(\(crate\))? )?[a-z_]+: (\[|&.*\[)|count: usize' | show '6 buffers, and lengths beside them'
+src | xargs grep -nE 'match (\*?self|increase|step|kind)\b|: fn\(|dyn |Box<' | show '7 switches and tables of steps'
+find crates -path '*/proofs/*' -name 'Answers.antt' | sort | show '8 files of answers'
+find crates -path '*/proofs/*' -name '*.antt' ! -name Answers.antt ! -name Invariants.antt ! -name Lib.antt | sort | show '8 files of lemmas'
