@@ -7,5 +7,5 @@ use Rattle.protocol.specs.declared.faults.SenderFault.{SenderFault}
 use Rattle.sender.specs.declared.order.Order.{Order}
 
 abbrev pub to_take : Result Order SenderFault → Answer
-to_take (Ok order) = ordered order.start
+to_take (Ok order) = ordered order
 to_take (Err f) = refused (refusal f)

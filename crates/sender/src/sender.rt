@@ -1,10 +1,7 @@
-ghost use Rattle.std.specs.Prelude.{◌≡◌, ◌^◌, ◌≤◌, true};
-ghost use Rattle.claims.specs.Laid.{laid, spent_of};
-ghost use Rattle.claims.specs.Tables.{claims};
-
 use claims::table::Table;
 use congestion::controller::Controller;
 use nonce::source::NonceSource;
+use std::marker::Model;
 
 mod acknowledges;
 mod figures;
@@ -38,14 +35,20 @@ pub struct Sender<C: Controller, N: NonceSource, S = Sending> {
     duplicates: u32,
     repeat_due: bool,
     stage: S,
-    // what always holds: an end is proved of bytes that were sent
-    ghost within: { proved ≤ sent },
-    // the stream has at most 2^40 bytes
-    ghost limited: { sent ≤ 2 ^ 40 },
-    // the claims lie one after another in the stream, and none is empty
-    ghost ordered: { laid 0 (claims table) sent ≡ true },
-    // each duplicate has marked a claim of its own
-    ghost marked: { duplicates ≤ spent_of (claims table) },
+}
+
+/// Contracts see a sender as a state of the rules. Nothing of it is left out but its stage.
+impl<C: Controller, N: NonceSource, S> Model for Sender<C, N, S> {
+    ghost use Rattle.protocol.specs.Calls.{State};
+    ghost use Rattle.claims.specs.Tables.{claims};
+
+    ghost Value = { State C };
+
+    ghost use Rattle.sender.specs.Sound.{Sound};
+
+    ghost view = { λ s. record { control = s.controller; words = N.words s.nonces; claims = claims s.table; settled = s.settled; sent = s.sent; proved = s.proved; duplicates = s.duplicates; due = s.repeat_due } };
+
+    ghost invariant = { λ s. Sound s.sent s.proved s.duplicates (claims s.table) };
 }
 
 pub type FinishedSender<C, N> = Sender<C, N, Finished>;

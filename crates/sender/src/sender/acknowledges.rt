@@ -1,9 +1,9 @@
 ghost use Rattle.std.specs.Prelude.{◌≡◌, ◌<◌, ◌≤◌, false, length, slice_index_or};
 ghost use Rattle.protocol.specs.Calls.{Call};
-ghost use Rattle.protocol.specs.SenderRules.{after_advance, after_duplicate, duplicate_counted};
+ghost use Rattle.protocol.specs.SenderRules.{reply, after_advance, after_duplicate, duplicate_counted};
 ghost use Rattle.protocol.specs.Answers.{told, to_acknowledge, progress};
-ghost use Rattle.claims.specs.Tables.{claims, no_claim};
-ghost use Rattle.sender.specs.Views.{view, freed, Replies};
+ghost use Rattle.claims.specs.Tables.{no_claim};
+ghost use Rattle.sender.specs.Parts.{freed};
 
 use super::Sender;
 use claims::walks::Echo;
@@ -23,7 +23,7 @@ impl<C: Controller, N: NonceSource, S> Sender<C, N, S> {
         sum: u64,
         echo: u64,
     ) -> Result<Acknowledged, SenderFault>
-        ensures { Replies C.Controller.control N.NonceSource.words self.old (Call.acknowledge end sum echo) (to_acknowledge result) self.new }
+        ensures { reply C.control self.old (Call.acknowledge end sum echo) ≡ told (to_acknowledge result) self.new }
     {
         if end > self.sent {
             return Err(SenderFault::BeyondSent { end });
@@ -49,7 +49,7 @@ impl<C: Controller, N: NonceSource, S> Sender<C, N, S> {
     // An acknowledgement beyond the proved end: the rise is credited, and the claims that it covers go.
     fn advance(&mut self, end: u64)
         requires { (self.old.proved ≤ end) × (end ≤ self.old.sent) }
-        ensures { view N.NonceSource.words self.new ≡ after_advance C.Controller.control (view N.NonceSource.words self.old) end }
+        ensures { self.new ≡ after_advance C.control self.old end }
     {
         self.controller.credit(end - self.proved);
         self.duplicates = 0;
@@ -61,7 +61,7 @@ impl<C: Controller, N: NonceSource, S> Sender<C, N, S> {
     fn free_claims(&mut self, end: u64)
         requires within { end ≤ self.old.sent }
         requires none { self.old.duplicates ≡ 0 }
-        ensures { view N.NonceSource.words self.new ≡ freed (view N.NonceSource.words self.old) end }
+        ensures { self.new ≡ freed self.old end }
     {
         self.settled = self.table.retire(end, self.settled);
         self.proved = end;
@@ -69,8 +69,8 @@ impl<C: Controller, N: NonceSource, S> Sender<C, N, S> {
 
     // A duplicate is counted for the claim at a place; the third tells a loss.
     fn count_duplicate(&mut self, place: usize) -> Acknowledged
-        requires { (place < length (claims self.old.table)) × ((slice_index_or (claims self.old.table) place no_claim).spent ≡ false) }
-        ensures { duplicate_counted C.Controller.control (view N.NonceSource.words self.old) (slice_index_or (claims self.old.table) place no_claim).segment.start ≡ told (progress result) (view N.NonceSource.words self.new) }
+        requires { (place < length self.old.claims) × ((slice_index_or self.old.claims place no_claim).spent ≡ false) }
+        ensures { duplicate_counted C.control self.old (slice_index_or self.old.claims place no_claim).segment.start ≡ told (progress result) self.new }
     {
         let start = self.spend(place);
         if self.duplicates == LOSS_AT {
@@ -84,9 +84,9 @@ impl<C: Controller, N: NonceSource, S> Sender<C, N, S> {
 
     // Marks the claim at a place, counts one duplicate more, and tells where the claim's segment begins.
     fn spend(&mut self, place: usize) -> u64
-        requires { (place < length (claims self.old.table)) × ((slice_index_or (claims self.old.table) place no_claim).spent ≡ false) }
-        ensures start { result ≡ (slice_index_or (claims self.old.table) place no_claim).segment.start }
-        ensures state { view N.NonceSource.words self.new ≡ after_duplicate C.Controller.control (view N.NonceSource.words self.old) result false }
+        requires { (place < length self.old.claims) × ((slice_index_or self.old.claims place no_claim).spent ≡ false) }
+        ensures start { result ≡ (slice_index_or self.old.claims place no_claim).segment.start }
+        ensures state { self.new ≡ after_duplicate C.control self.old result false }
     {
         let start = self.table.claims()[place].segment.start;
         self.table.mark_spent(place);

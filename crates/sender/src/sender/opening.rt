@@ -1,7 +1,6 @@
 ghost use Rattle.std.specs.Prelude.{◌≡◌};
 ghost use Rattle.protocol.specs.Promises.{Promises};
 ghost use Rattle.protocol.specs.SenderRules.{opened};
-ghost use Rattle.sender.specs.Views.{view};
 
 use super::{Finished, FinishedSender, Sender, Sending};
 use claims::table::Table;
@@ -11,15 +10,15 @@ use nonce::source::NonceSource;
 impl<C: Controller, N: NonceSource> Sender<C, N> {
     /// Nothing is sent, and nothing is acknowledged. What every list of calls on the new sender then adds up to is `promises`.
     pub fn new(controller: C, nonces: N) -> Sender<C, N>
-        ensures fresh { view N.NonceSource.words result ≡ opened controller (N.NonceSource.words nonces) }
-        ensures promises { Promises C.Controller.control (view N.NonceSource.words result) }
+        ensures fresh { result ≡ opened controller (N.words nonces) }
+        ensures promises { Promises C.control result }
     {
         Sender::empty(controller, nonces)
     }
 
     // No claim, and every number at 0.
     fn empty(controller: C, nonces: N) -> Sender<C, N>
-        ensures { view N.NonceSource.words result ≡ opened controller (N.NonceSource.words nonces) }
+        ensures { result ≡ opened controller (N.words nonces) }
     {
         Sender {
             controller,
@@ -36,7 +35,7 @@ impl<C: Controller, N: NonceSource> Sender<C, N> {
 
     /// No more is sent; all other calls go on as before.
     pub fn finish(self) -> FinishedSender<C, N>
-        ensures { view N.NonceSource.words result ≡ view N.NonceSource.words self }
+        ensures { result ≡ self }
     {
         let Sender {
             controller,

@@ -1,7 +1,8 @@
+ghost use Rattle.std.specs.Prelude.{◌≡◌};
 ghost use Rattle.protocol.specs.Calls.{Call, Answer};
-ghost use Rattle.protocol.specs.Answers.{to_repeat};
+ghost use Rattle.protocol.specs.SenderRules.{reply};
+ghost use Rattle.protocol.specs.Answers.{told, to_repeat};
 ghost use Rattle.sender.specs.Orders.{to_take};
-ghost use Rattle.sender.specs.Views.{Replies};
 
 use super::Sender;
 use crate::order::Order;
@@ -13,7 +14,7 @@ use protocol::segment::Segment;
 impl<C: Controller, N: NonceSource, S> Sender<C, N, S> {
     /// Takes the order to repeat the oldest outstanding segment; then no repeat is due.
     pub fn take(&mut self) -> Result<Order, SenderFault>
-        ensures { Replies C.Controller.control N.NonceSource.words self.old Call.take (to_take result) self.new }
+        ensures { reply C.control self.old Call.take ≡ told (to_take result) self.new }
     {
         if !self.repeat_due {
             let sent = self.sent;
@@ -25,7 +26,7 @@ impl<C: Controller, N: NonceSource, S> Sender<C, N, S> {
 
     /// Spends an order: the same segment again, unless it has been acknowledged meanwhile.
     pub fn repeat(&self, order: Order) -> Result<Segment, SenderFault>
-        ensures { Replies C.Controller.control N.NonceSource.words self.now (Call.repeat order.start) (to_repeat result) self.now }
+        ensures { reply C.control self.now (Call.repeat order) ≡ told (to_repeat result) self.now }
     {
         let start = order.spend();
         match self.table.find_start(start) {
@@ -36,7 +37,7 @@ impl<C: Controller, N: NonceSource, S> Sender<C, N, S> {
 
     /// Spends an order unused: a repeat is due again if the order's segment is the oldest outstanding one, else nothing changes.
     pub fn put_back(&mut self, order: Order)
-        ensures { Replies C.Controller.control N.NonceSource.words self.old (Call.put_back order.start) (Answer.returned order.start) self.new }
+        ensures { reply C.control self.old (Call.put_back order) ≡ told (Answer.returned order) self.new }
     {
         let start = order.spend();
         if self.table.oldest_is_at(start) {

@@ -1,7 +1,6 @@
 ghost use Rattle.std.specs.Prelude.{◌≡◌};
 ghost use Rattle.protocol.specs.SenderRules.{allowance as allowance_by_rule};
 ghost use Rattle.protocol.specs.SenderRules.{in_flight};
-ghost use Rattle.sender.specs.Views.{view};
 
 use super::Sender;
 use congestion::controller::Controller;
@@ -10,21 +9,21 @@ use nonce::source::NonceSource;
 impl<C: Controller, N: NonceSource, S> Sender<C, N, S> {
     /// The controller's window.
     pub fn window(&self) -> u32
-        ensures { result ≡ C.Controller.control.window (view N.NonceSource.words self.now).control }
+        ensures { result ≡ C.control.window self.now.control }
     {
         self.controller.window()
     }
 
     /// How many bytes may be in flight: the window, and a segment more for each duplicate.
     pub fn allowance(&self) -> u64
-        ensures { result ≡ allowance_by_rule C.Controller.control (view N.NonceSource.words self.now) }
+        ensures { result ≡ allowance_by_rule C.control self.now }
     {
         self.window() as u64 + self.controller.segment() as u64 * self.duplicates as u64
     }
 
     // The bytes sent and not yet acknowledged.
     pub(super) fn in_flight(&self) -> u64
-        ensures { result ≡ in_flight (view N.NonceSource.words self.now) }
+        ensures { result ≡ in_flight self.now }
     {
         self.sent - self.proved
     }

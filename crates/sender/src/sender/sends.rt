@@ -1,10 +1,9 @@
 ghost use Rattle.std.specs.Prelude.{◌≡◌, ◌+◌, ◌^◌, ◌<◌, ◌≤◌, length as count, drop};
 ghost use Rattle.protocol.specs.Calls.{Call};
 ghost use Rattle.protocol.specs.Checks.{first_refusal};
-ghost use Rattle.protocol.specs.SenderRules.{checks};
-ghost use Rattle.protocol.specs.Answers.{refusal_in, to_send};
-ghost use Rattle.claims.specs.Tables.{claims};
-ghost use Rattle.sender.specs.Views.{view, drawn_from, entered, Replies};
+ghost use Rattle.protocol.specs.SenderRules.{reply, checks};
+ghost use Rattle.protocol.specs.Answers.{told, refusal_in, to_send};
+ghost use Rattle.sender.specs.Parts.{drawn_from, entered};
 
 use super::Sender;
 use congestion::controller::Controller;
@@ -21,7 +20,7 @@ const MOST_CLAIMS: usize = 64;
 impl<C: Controller, N: NonceSource> Sender<C, N> {
     // The checks of a send, in their order.
     fn check_send(&self, length: u16) -> Result<(), SenderFault>
-        ensures { first_refusal (checks C.Controller.control (view N.NonceSource.words self.now) (Call.send length)) ≡ refusal_in result }
+        ensures { first_refusal (checks C.control self.now (Call.send length)) ≡ refusal_in result }
     {
         let sent = self.sent;
         if length == 0 || length as u32 > self.controller.segment() {
@@ -44,7 +43,7 @@ impl<C: Controller, N: NonceSource> Sender<C, N> {
 
     /// Sends the next `length` bytes: draws two words, the summed nonce and then the single nonce, and enters the claim.
     pub fn send(&mut self, length: u16) -> Result<Segment, SenderFault>
-        ensures { Replies C.Controller.control N.NonceSource.words self.old (Call.send length) (to_send result) self.new }
+        ensures { reply C.control self.old (Call.send length) ≡ told (to_send result) self.new }
     {
         self.check_send(length)?;
         let segment = draw_segment(&mut self.nonces, self.sent, length);
@@ -57,8 +56,8 @@ impl<C: Controller, N: NonceSource> Sender<C, N> {
         requires next { segment.start ≡ self.old.sent }
         requires some { 0 < segment.length }
         requires holds { self.old.sent + segment.length ≤ 2 ^ 40 }
-        requires room { count (claims self.old.table) < 64 }
-        ensures { view N.NonceSource.words self.new ≡ entered (view N.NonceSource.words self.old) segment }
+        requires room { count self.old.claims < 64 }
+        ensures { self.new ≡ entered self.old segment }
     {
         self.table.push(Claim {
             segment,
@@ -70,9 +69,9 @@ impl<C: Controller, N: NonceSource> Sender<C, N> {
 
 // The segment that a source's next two words make of the bytes from a start on.
 fn draw_segment<N: NonceSource>(nonces: &mut N, start: u64, length: u16) -> Segment
-    requires { 2 ≤ count (N.NonceSource.words nonces.old) }
-    ensures segment { result ≡ drawn_from (N.NonceSource.words nonces.old) start length }
-    ensures left { N.NonceSource.words nonces.new ≡ drop 2 (N.NonceSource.words nonces.old) }
+    requires { 2 ≤ count (N.words nonces.old) }
+    ensures segment { result ≡ drawn_from (N.words nonces.old) start length }
+    ensures left { N.words nonces.new ≡ drop 2 (N.words nonces.old) }
 {
     let summed = nonces.draw().unwrap();
     let single = nonces.draw().unwrap();

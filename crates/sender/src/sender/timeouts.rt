@@ -1,6 +1,7 @@
+ghost use Rattle.std.specs.Prelude.{◌≡◌};
 ghost use Rattle.protocol.specs.Calls.{Call};
-ghost use Rattle.protocol.specs.Answers.{to_timeout};
-ghost use Rattle.sender.specs.Views.{Replies};
+ghost use Rattle.protocol.specs.SenderRules.{reply};
+ghost use Rattle.protocol.specs.Answers.{told, to_timeout};
 
 use super::Sender;
 use congestion::controller::Controller;
@@ -10,7 +11,7 @@ use protocol::faults::SenderFault;
 impl<C: Controller, N: NonceSource, S> Sender<C, N, S> {
     /// Nothing came back in time: the controller is told, and a repeat is due.
     pub fn timeout(&mut self) -> Result<(), SenderFault>
-        ensures { Replies C.Controller.control N.NonceSource.words self.old Call.timeout (to_timeout result) self.new }
+        ensures { reply C.control self.old Call.timeout ≡ told (to_timeout result) self.new }
     {
         let in_flight = self.in_flight();
         if in_flight == 0 {
