@@ -1,5 +1,6 @@
 -- SplitMix64: the words that follow from a seed. Assumes nothing.
 use Rattle.std.specs.Prelude.{ℕ, zero, suc, ◌+◌, ◌*◌, ◌/◌, ◌%◌, ◌^◌, List, [], ◌∷◌, bit_xor}
+use Rattle.nonce.specs.declared.splitmix.SplitMix64.{SplitMix64}
 
 -- the state after one step
 abbrev pub stepped : ℕ → ℕ
@@ -24,3 +25,7 @@ mixed state =
 abbrev pub generated : (count state : ℕ) → List ℕ
 generated zero state = []
 generated (suc count) state = mixed (stepped state) ∷ generated count (stepped state)
+
+-- the words that a generator still has to give
+abbrev pub to_come : SplitMix64 → List ℕ
+to_come s = generated s.count s.state

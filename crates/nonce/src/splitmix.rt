@@ -1,5 +1,5 @@
-ghost use Rattle.std.specs.Prelude.{◌≡◌, ◌^◌, ◌<◌, min, length};
-ghost use Rattle.nonce.specs.SplitMix.{stepped, xor_shifted, multiplied, mixed, generated};
+ghost use Rattle.std.specs.Prelude.{◌≡◌, ◌^◌, ◌<◌, min};
+ghost use Rattle.nonce.specs.SplitMix.{stepped, xor_shifted, multiplied, mixed, generated, to_come};
 
 use crate::source::{NonceFault, NonceSource};
 
@@ -20,13 +20,12 @@ pub struct SplitMix64 {
     state: u64,
     // how many words are still to come
     count: u64,
-    ghost counted: { length (generated count state) ≡ count },
 }
 
 impl SplitMix64 {
     /// `count` words from this seed, but no more than 2^32.
     pub fn new(seed: u64, count: u64) -> SplitMix64
-        ensures { generated result.count result.state ≡ generated (min count (2 ^ 32)) seed }
+        ensures { to_come result ≡ generated (min count (2 ^ 32)) seed }
     {
         SplitMix64 {
             state: seed,
@@ -36,13 +35,10 @@ impl SplitMix64 {
 }
 
 impl NonceSource for SplitMix64 {
-    ghost words = { λ s. generated s.count s.state };
+    ghost words = { to_come };
 
     fn draw(&mut self) -> Result<u64, NonceFault> {
-        if self.count == 0 {
-            return Err(NonceFault::NoWord);
-        }
-        self.count -= 1;
+        self.count = self.count.checked_sub(1).ok_or(NonceFault::NoWord)?;
         Ok(next_word(&mut self.state))
     }
 

@@ -1,6 +1,5 @@
 ghost use Rattle.std.specs.Prelude.{◌≡◌};
 ghost use Rattle.protocol.specs.Answers.{told, to_repeat};
-ghost use Rattle.sender.specs.Views.{view};
 ghost use Rattle.put_back.specs.Orders.{repeat_taken, repeat_put_back};
 
 use congestion::controller::Controller;
@@ -13,7 +12,7 @@ use sender::sender::Sender;
 pub fn repeat_taken<C: Controller, N: NonceSource>(
     panel: &mut Sender<C, N>,
 ) -> Result<Segment, SenderFault>
-    ensures { repeat_taken C.Controller.control (view N.NonceSource.words panel.old) ≡ told (to_repeat result) (view N.NonceSource.words panel.new) }
+    ensures { repeat_taken C.control panel.old ≡ told (to_repeat result) panel.new }
 {
     let order = panel.take()?;
     panel.repeat(order)
@@ -23,7 +22,7 @@ pub fn repeat_taken<C: Controller, N: NonceSource>(
 pub fn repeat_put_back<C: Controller, N: NonceSource>(
     panel: &mut Sender<C, N>,
 ) -> Result<Segment, SenderFault>
-    ensures { repeat_put_back C.Controller.control (view N.NonceSource.words panel.old) ≡ told (to_repeat result) (view N.NonceSource.words panel.new) }
+    ensures { repeat_put_back C.control panel.old ≡ told (to_repeat result) panel.new }
 {
     let order = panel.take()?;
     panel.put_back(order);

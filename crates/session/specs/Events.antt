@@ -1,36 +1,18 @@
 -- What an event does to a panel, by the rules of the sender. Assumes nothing.
-use Rattle.std.specs.Prelude.{ℕ, List, Some, None, codes, Option}
+use Rattle.std.specs.Prelude.{Some, None, Option}
 use Rattle.fault.specs.Refusals.{Refusal}
 use Rattle.congestion.specs.Control.{Control}
-use Rattle.protocol.specs.Calls.{State, Answer, Reply}
+use Rattle.protocol.specs.Calls.{State, Answer, Reply, refusal_of}
 use Rattle.protocol.specs.Calls.Call.{send, acknowledge, timeout, take, repeat}
 use Rattle.protocol.specs.Calls.Answer.{sent, advanced, counted, lost, expired, ordered, repeated, returned, refused}
 use Rattle.protocol.specs.SenderRules.{reply}
 use Rattle.session.specs.declared.events.Event.{Event}
 use Rattle.session.specs.declared.events.Event.TheVariants.{Send, Acknowledge, Timeout, Again}
 
--- the word of an event in the listing
-abbrev pub listing_word : Event → List ℕ
-listing_word (Send length) = codes "send"
-listing_word (Acknowledge end sum echo) = codes "ack"
-listing_word Timeout = codes "time"
-listing_word Again = codes "again"
-
 -- whether it was refused, and the state that it leaves
 pub record Outcome (C : Type 0) : Type 0 where
   pub refusal : Option Refusal
   pub state : State C
-
-abbrev pub refusal_of : Answer → Option Refusal
-refusal_of (sent g) = None
-refusal_of advanced = None
-refusal_of (counted o) = None
-refusal_of (lost o) = None
-refusal_of expired = None
-refusal_of (ordered o) = None
-refusal_of (repeated g) = None
-refusal_of (returned o) = None
-refusal_of (refused f) = Some f
 
 abbrev pub ended : {C : Type 0} → Reply C → Outcome C
 ended r = record { refusal = refusal_of r.answer; state = r.state }

@@ -1,12 +1,13 @@
-ghost use Rattle.std.specs.Prelude.{◌≡◌};
+ghost use Rattle.std.specs.Prelude.{◌≡◌, Some};
 ghost use Rattle.protocol.specs.Answers.{refusal_in};
-ghost use Rattle.sender.specs.Views.{view};
-ghost use Rattle.session.specs.Events.{listing_word, outcome};
+ghost use Rattle.session.specs.Events.{outcome};
+ghost use Rattle.session.specs.Listing.{listing_word};
 
 use congestion::controller::Controller;
 use nonce::source::NonceSource;
 use protocol::faults::SenderFault;
 use sender::sender::Sender;
+use std::fmt;
 
 /// What happens to a panel.
 #[derive(Clone, Copy)]
@@ -18,25 +19,27 @@ pub enum Event {
     Again,
 }
 
-impl Event {
-    /// Its word in the listing.
-    pub fn word(&self) -> &'static str
-        ensures { result.now ≡ listing_word self.now }
-    {
-        match self {
+/// Its word in the listing.
+impl fmt::Display for Event {
+    ghost output = { λ event. Some (listing_word event) };
+
+    fn fmt<W: fmt::Write>(&self, f: &mut fmt::Formatter<W>) -> fmt::Result {
+        f.write_str(match self {
             Event::Send { .. } => "send",
             Event::Acknowledge { .. } => "ack",
             Event::Timeout => "time",
             Event::Again => "again",
-        }
+        })
     }
+}
 
+impl Event {
     /// Plays the event on a sender, and tells whether it was refused.
     pub fn play<C: Controller, N: NonceSource>(
         &self,
         panel: &mut Sender<C, N>,
     ) -> Result<(), SenderFault>
-        ensures { outcome C.Controller.control (view N.NonceSource.words panel.old) self.now ≡ record { refusal = refusal_in result; state = view N.NonceSource.words panel.new } }
+        ensures { outcome C.control panel.old self.now ≡ record { refusal = refusal_in result; state = panel.new } }
     {
         match *self {
             Event::Send { length } => {
@@ -54,7 +57,7 @@ impl Event {
 
 /// Takes a due repeat and repeats it.
 fn again<C: Controller, N: NonceSource>(panel: &mut Sender<C, N>) -> Result<(), SenderFault>
-    ensures { outcome C.Controller.control (view N.NonceSource.words panel.old) Event.Again ≡ record { refusal = refusal_in result; state = view N.NonceSource.words panel.new } }
+    ensures { outcome C.control panel.old Event.Again ≡ record { refusal = refusal_in result; state = panel.new } }
 {
     let order = panel.take()?;
     panel.repeat(order)?;

@@ -3,20 +3,17 @@
 #![tactic(auto)]
 
 mod events;
+mod listing;
 
 use congestion::cap::Cap;
-use congestion::controller::{Controller, WIDEST};
+use congestion::controller::WIDEST;
 use congestion::reno::Reno;
 use congestion::share::Share;
 use events::Event;
-use fault::Fault;
+use listing::{Figures, Line, Verdict};
 use nonce::recorded::Recorded;
-use protocol::faults::SenderFault;
 use sender::sender::Sender;
 use std::io;
-
-/// A Reno panel with no cap and all of its window.
-type Panel<'a> = Sender<Cap<Share<Reno>>, Recorded<'a>>;
 
 const WORDS: [u64; 10] = [10, 20, 30, 40, 50, 60, 70, 80, 90, 100];
 
@@ -75,32 +72,21 @@ fn main(rt: HostRuntime) -> io::Result<()> {
     let mut panel = Sender::new(Cap::new(Share::new(reno, 8), WIDEST), Recorded::new(&WORDS));
     let mut refused: u32 = 0;
     for (i, event) in EVENTS.iter().enumerate() {
-        let outcome = event.play(&mut panel);
-        if outcome.is_err() {
-            refused += 1;
-        }
-        print_line(&rt, i + 1, event.word(), outcome, &panel)?;
+        let verdict = event.play(&mut panel);
+        refused += u32::from(verdict.is_err());
+        let line = Line {
+            number: i + 1,
+            event: *event,
+            verdict: Verdict(verdict),
+            figures: Figures {
+                proved: panel.proved(),
+                window: panel.window(),
+                allowance: panel.allowance(),
+            },
+        };
+        println!(rt; "{line}")?;
     }
     let finished = panel.finish();
     let proved = finished.proved();
     println!(rt; "proved {proved} refused {refused}")
-}
-
-/// The number of the event, its word, `ok` or the refusal's number, the proved end, the window and the allowance.
-fn print_line(
-    rt: &impl Print,
-    number: usize,
-    word: &str,
-    outcome: Result<(), SenderFault>,
-    panel: &Panel<'_>,
-) -> io::Result<()> {
-    let proved = panel.proved();
-    let window = panel.window();
-    let allowance = panel.allowance();
-    print!(rt; "{number} {word} ")?;
-    match outcome {
-        Ok(()) => print!(rt; "ok")?,
-        Err(fault) => rt.print(fault.number())?,
-    }
-    println!(rt; " {proved} {window} {allowance}")
 }
