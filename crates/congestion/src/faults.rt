@@ -1,7 +1,7 @@
 ghost use Rattle.congestion.specs.Faults.{refusal as meaning};
 ghost use Rattle.fault.specs.declared.Layer.TheVariants.{Controller};
 
-use fault::{Fault, Layer, Place};
+use fault::{Fault, Label, Layer};
 
 /// Why no controller is made.
 #[derive(Clone, Copy, Debug)]
@@ -19,15 +19,9 @@ impl Fault for ControllerFault {
         Layer::Controller
     }
 
-    fn number(&self) -> u8 {
+    fn label(&self) -> Label {
         match self {
-            ControllerFault::Segment(_) => 1,
-        }
-    }
-
-    fn place(&self) -> Place {
-        match self {
-            ControllerFault::Segment(size) => Place::At(*size as u64),
+            ControllerFault::Segment(size) => Label::at(1, *size as u64),
         }
     }
 }

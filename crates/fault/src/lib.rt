@@ -2,7 +2,7 @@
 
 ghost use Rattle.std.specs.Prelude.{◌≡◌};
 ghost use Rattle.fault.specs.declared.Layer.{Layer};
-ghost use Rattle.fault.specs.Refusals.{Refusal, places};
+ghost use Rattle.fault.specs.Refusals.{Refusal, refusal_at, places, labelled};
 
 /// The part of the link that refuses.
 #[derive(Clone, Copy, PartialEq, Eq, Debug)]
@@ -19,6 +19,25 @@ pub enum Place {
     Between(u64, u64),
 }
 
+/// What a refusal is known by: its number in the table of refusals, and its place.
+#[derive(Clone, Copy, PartialEq, Eq, Debug)]
+pub struct Label {
+    pub number: u8,
+    pub place: Place,
+}
+
+impl Label {
+    /// A refusal that names one value.
+    pub fn at(number: u8, value: u64) -> Label
+        ensures { labelled result ≡ refusal_at number value }
+    {
+        Label {
+            number,
+            place: Place::At(value),
+        }
+    }
+}
+
 /// A refusal of the layer `origin`; `refusal` is what it means, its number and its places.
 pub trait Fault {
     ghost origin: { Layer };
@@ -28,9 +47,18 @@ pub trait Fault {
     fn layer(&self) -> Layer
         ensures { result ≡ origin };
 
+    fn label(&self) -> Label
+        ensures { labelled result ≡ refusal self.now };
+
     fn number(&self) -> u8
-        ensures { result ≡ (refusal self.now).number };
+        ensures { result ≡ (refusal self.now).number }
+    {
+        self.label().number
+    }
 
     fn place(&self) -> Place
-        ensures { places result ≡ (refusal self.now).places };
+        ensures { places result ≡ (refusal self.now).places }
+    {
+        self.label().place
+    }
 }

@@ -3,7 +3,7 @@ ghost use Rattle.fault.specs.declared.Layer.{Layer};
 ghost use Rattle.nonce.specs.Draws.{Drawn};
 ghost use Rattle.nonce.specs.Faults.{refusal};
 
-use fault::{Fault, Layer, Place};
+use fault::{Fault, Label, Layer};
 
 /// A source of nonces, words of 64 bits. Its meaning is the list of the words still to come.
 pub trait NonceSource {
@@ -34,15 +34,9 @@ impl Fault for NonceFault {
         Layer::NonceSource
     }
 
-    fn number(&self) -> u8 {
+    fn label(&self) -> Label {
         match self {
-            NonceFault::NoWord => 6,
-        }
-    }
-
-    fn place(&self) -> Place {
-        match self {
-            NonceFault::NoWord => Place::At(0),
+            NonceFault::NoWord => Label::at(6, 0),
         }
     }
 }

@@ -1,7 +1,7 @@
 ghost use Rattle.fault.specs.declared.Layer.TheVariants.{Sender};
 ghost use Rattle.protocol.specs.Faults.{refusal};
 
-use fault::{Fault, Layer, Place};
+use fault::{Fault, Label, Layer, Place};
 
 /// Why a call of the sender is refused, with the values that name the place.
 #[derive(Clone, Copy, PartialEq, Eq, Debug)]
@@ -43,39 +43,24 @@ impl Fault for SenderFault {
         Layer::Sender
     }
 
-    fn number(&self) -> u8 {
-        match self {
-            SenderFault::Length { .. } => 2,
-            SenderFault::StreamFull { .. } => 3,
-            SenderFault::TableFull { .. } => 4,
-            SenderFault::Allowance { .. } => 5,
-            SenderFault::NonceShortage { .. } => 6,
-            SenderFault::BeyondSent { .. } => 7,
-            SenderFault::BelowProved { .. } => 8,
-            SenderFault::WrongSum { .. } => 9,
-            SenderFault::UnknownEcho { .. } => 10,
-            SenderFault::SpentEcho { .. } => 11,
-            SenderFault::NothingInFlight { .. } => 12,
-            SenderFault::NoRepeatDue { .. } => 13,
-            SenderFault::ClaimGone { .. } => 14,
-        }
-    }
-
-    fn place(&self) -> Place {
+    fn label(&self) -> Label {
         match *self {
-            SenderFault::Length { sent }
-            | SenderFault::StreamFull { sent }
-            | SenderFault::TableFull { sent }
-            | SenderFault::Allowance { sent }
-            | SenderFault::NonceShortage { sent }
-            | SenderFault::NothingInFlight { sent }
-            | SenderFault::NoRepeatDue { sent } => Place::At(sent),
-            SenderFault::BeyondSent { end }
-            | SenderFault::BelowProved { end }
-            | SenderFault::UnknownEcho { end }
-            | SenderFault::SpentEcho { end } => Place::At(end),
-            SenderFault::WrongSum { proved, end } => Place::Between(proved, end),
-            SenderFault::ClaimGone { start } => Place::At(start),
+            SenderFault::Length { sent } => Label::at(2, sent),
+            SenderFault::StreamFull { sent } => Label::at(3, sent),
+            SenderFault::TableFull { sent } => Label::at(4, sent),
+            SenderFault::Allowance { sent } => Label::at(5, sent),
+            SenderFault::NonceShortage { sent } => Label::at(6, sent),
+            SenderFault::BeyondSent { end } => Label::at(7, end),
+            SenderFault::BelowProved { end } => Label::at(8, end),
+            SenderFault::WrongSum { proved, end } => Label {
+                number: 9,
+                place: Place::Between(proved, end),
+            },
+            SenderFault::UnknownEcho { end } => Label::at(10, end),
+            SenderFault::SpentEcho { end } => Label::at(11, end),
+            SenderFault::NothingInFlight { sent } => Label::at(12, sent),
+            SenderFault::NoRepeatDue { sent } => Label::at(13, sent),
+            SenderFault::ClaimGone { start } => Label::at(14, start),
         }
     }
 }
