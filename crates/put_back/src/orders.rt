@@ -1,22 +1,12 @@
 ghost use Rattle.std.specs.Prelude.{◌≡◌};
 ghost use Rattle.protocol.specs.Answers.{told, to_repeat};
-ghost use Rattle.put_back.specs.Orders.{repeat_taken, repeat_put_back};
+ghost use Rattle.put_back.specs.Orders.{repeat_put_back};
 
 use congestion::controller::Controller;
 use nonce::source::NonceSource;
 use protocol::faults::SenderFault;
 use protocol::segment::Segment;
 use sender::sender::Sender;
-
-/// Takes a due repeat and repeats it.
-pub fn repeat_taken<C: Controller, N: NonceSource>(
-    panel: &mut Sender<C, N>,
-) -> Result<Segment, SenderFault>
-    ensures { repeat_taken C.control panel.old ≡ told (to_repeat result) panel.new }
-{
-    let order = panel.take()?;
-    panel.repeat(order)
-}
 
 /// Takes a due repeat, puts its order back, takes it again and repeats it.
 pub fn repeat_put_back<C: Controller, N: NonceSource>(
@@ -26,5 +16,5 @@ pub fn repeat_put_back<C: Controller, N: NonceSource>(
 {
     let order = panel.take()?;
     panel.put_back(order);
-    repeat_taken(panel)
+    panel.take_and_repeat()
 }

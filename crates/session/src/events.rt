@@ -49,17 +49,10 @@ impl Event {
                 panel.acknowledge(end, sum, echo)?;
             }
             Event::Timeout => panel.timeout()?,
-            Event::Again => again(panel)?,
+            Event::Again => {
+                panel.take_and_repeat()?;
+            }
         }
         Ok(())
     }
-}
-
-/// Takes a due repeat and repeats it.
-fn again<C: Controller, N: NonceSource>(panel: &mut Sender<C, N>) -> Result<(), SenderFault>
-    ensures { outcome C.control panel.old Event.Again ≡ record { refusal = refusal_in result; state = panel.new } }
-{
-    let order = panel.take()?;
-    panel.repeat(order)?;
-    Ok(())
 }

@@ -2,7 +2,7 @@ ghost use Rattle.std.specs.Prelude.{◌≡◌};
 ghost use Rattle.protocol.specs.Calls.{Call, Answer};
 ghost use Rattle.protocol.specs.SenderRules.{reply};
 ghost use Rattle.protocol.specs.Answers.{told, to_repeat};
-ghost use Rattle.sender.specs.Orders.{to_take};
+ghost use Rattle.sender.specs.Orders.{to_take, repeat_taken};
 
 use super::Sender;
 use crate::order::Order;
@@ -29,10 +29,17 @@ impl<C: Controller, N: NonceSource, S> Sender<C, N, S> {
         ensures { reply C.control self.now (Call.repeat order) ≡ told (to_repeat result) self.now }
     {
         let start = order.spend();
-        match self.table.find_start(start) {
-            Some(segment) => Ok(segment),
-            None => Err(SenderFault::ClaimGone { start }),
-        }
+        self.table
+            .find_start(start)
+            .ok_or(SenderFault::ClaimGone { start })
+    }
+
+    /// Takes a due repeat and repeats it.
+    pub fn take_and_repeat(&mut self) -> Result<Segment, SenderFault>
+        ensures { repeat_taken C.control self.old ≡ told (to_repeat result) self.new }
+    {
+        let order = self.take()?;
+        self.repeat(order)
     }
 
     /// Spends an order unused: a repeat is due again if the order's segment is the oldest outstanding one, else nothing changes.

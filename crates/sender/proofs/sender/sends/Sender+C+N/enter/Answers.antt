@@ -11,4 +11,3 @@ invariant_of-self g c =
     let same = ap (λ t. t.claims) c.self.view_is in
     let more = entered 64 _ _ _ _ c.push.ensures.free c.push.ensures.entered (rw same c.requires.room) in
     rw more (sound_entered _ _ _ _ c.self.invariant c.args.segment (rw sent c.requires.next) c.requires.some (rw sent c.requires.holds))
-
