@@ -1,5 +1,5 @@
 -- How far a search for an echo has come. Assumes nothing.
-use Rattle.std.proofs.Common.{◌≡◌, ℕ, ◌+◌, ◌<◌, ◌≤◌, Bool, true, false, cond, ◌||◌, List, length, get_or, take, drop, arith}
+use Rattle.std.proofs.Common.{◌≡◌, ℕ, ◌+◌, ◌<◌, ◌≤◌, Bool, true, false, cond, ◌||◌, List, length, get_or, take, drop, Err, arith}
 use Rattle.std.proofs.lemmas.List.{at_drop_more, at_drop_all}
 use Rattle.protocol.specs.declared.segment.Claim.{Claim}
 use Rattle.protocol.specs.Claims.{on, unspent, oldest}
@@ -8,7 +8,7 @@ use Rattle.protocol.specs.Segments.{echoed_past}
 use Rattle.protocol.proofs.Lists.{any_more}
 use Rattle.claims.specs.Tables.{no_claim}
 use Rattle.claims.specs.Walks.{Found, OldestAt}
-use Rattle.claims.specs.declared.walks.Echo.TheVariants.{Unknown, Spent}
+use Rattle.claims.specs.declared.faults.EchoFault.TheVariants.{Unknown, Spent}
 
 -- at the place i: the claims that are left tell of the echo what all claims tell, but for spent ones that were passed
 pub record Left (e x : ℕ) (passed : Bool) (i : ℕ) (cs : List Claim) : Type 0 where
@@ -73,11 +73,11 @@ module _ (e x : ℕ) (cs : List Claim) (i : ℕ) where
     fresh_end : any (unspent e x) (drop i cs) ≡ false
     fresh_end = at_drop_all (any (unspent e x)) cs i end
 
-    pub all_spent : Left e x true i cs → Found e x cs Spent
+    pub all_spent : Left e x true i cs → Found e x cs (Err Spent)
     all_spent left =
         let k = known_end in
         let u = fresh_end in
         (grind arith, grind arith)
 
-    pub all_other : Left e x false i cs → Found e x cs Unknown
+    pub all_other : Left e x false i cs → Found e x cs (Err Unknown)
     all_other left = let k = known_end in grind arith

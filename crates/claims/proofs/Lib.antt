@@ -1,4 +1,4 @@
 pub mod Tables
 pub mod Echoes
-pub mod Retiring
 pub mod Laid
+pub mod Sums

@@ -1,11 +1,6 @@
--- The table of claims, read as a list. Assumes nothing.
-use Rattle.std.specs.Prelude.{ℕ, true, false, List, take}
+-- A claim in a free place, and one that is marked. Assumes nothing.
+use Rattle.std.specs.Prelude.{true, false}
 use Rattle.protocol.specs.declared.segment.Claim.{Claim}
-use Rattle.claims.specs.declared.table.Table.{Table}
-
--- the claims in the places that are taken, the oldest first
-abbrev pub claims : {room : ℕ} → Table room → List Claim
-claims t = take t.count t.places
 
 -- what a free place holds
 abbrev pub no_claim : Claim

@@ -1,13 +1,13 @@
 -- What a walk over the claims finds. Assumes nothing.
-use Rattle.std.specs.Prelude.{◌≡◌, ℕ, ◌<◌, true, false, List, length, get_or, take, Some, None, Option, slice_index_or}
+use Rattle.std.specs.Prelude.{◌≡◌, ℕ, ◌<◌, true, false, List, length, get_or, take, Some, None, Option, Ok, Err, Result, slice_index_or}
 use Rattle.protocol.specs.declared.segment.Segment.{Segment}
 use Rattle.protocol.specs.declared.segment.Claim.{Claim}
 use Rattle.protocol.specs.Lists.{any}
 use Rattle.protocol.specs.Segments.{starts_at, echoed_past}
 use Rattle.protocol.specs.Claims.{on, unspent, oldest, segment_at}
 use Rattle.claims.specs.Tables.{no_claim}
-use Rattle.claims.specs.declared.walks.Echo.{Echo}
-use Rattle.claims.specs.declared.walks.Echo.TheVariants.{Unknown, Spent, Unspent}
+use Rattle.claims.specs.declared.faults.EchoFault.{EchoFault}
+use Rattle.claims.specs.declared.faults.EchoFault.TheVariants.{Unknown, Spent}
 
 -- the oldest claim with the echo x past e that is not spent stands at the place i
 pub record OldestAt (e x : ℕ) (cs : List Claim) (i : ℕ) : Type 0 where
@@ -18,10 +18,10 @@ pub record OldestAt (e x : ℕ) (cs : List Claim) (i : ℕ) : Type 0 where
   pub some : any (unspent e x) cs ≡ true
   pub start : oldest (unspent e x) cs ≡ (get_or cs i no_claim).segment.start
 
-abbrev pub Found : ℕ → ℕ → List Claim → Echo → Type 0
-Found e x cs Unknown = any (on (echoed_past e x)) cs ≡ false
-Found e x cs Spent = (any (on (echoed_past e x)) cs ≡ true) × (any (unspent e x) cs ≡ false)
-Found e x cs (Unspent i) = OldestAt e x cs i
+abbrev pub Found : ℕ → ℕ → List Claim → Result ℕ EchoFault → Type 0
+Found e x cs (Err Unknown) = any (on (echoed_past e x)) cs ≡ false
+Found e x cs (Err Spent) = (any (on (echoed_past e x)) cs ≡ true) × (any (unspent e x) cs ≡ false)
+Found e x cs (Ok i) = OldestAt e x cs i
 
 -- the claimed segment that starts at o
 abbrev pub Named : ℕ → List Claim → Option Segment → Type 0

@@ -2,5 +2,5 @@
 
 #![tactic(auto)]
 
+pub mod faults;
 pub mod table;
-pub mod walks;

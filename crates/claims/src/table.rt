@@ -1,14 +1,22 @@
-ghost use Rattle.std.specs.Prelude.{◌≤◌};
-
+use arrayvec::ArrayVec;
 use protocol::segment::Claim;
+use std::marker::Model;
 
 mod claims;
 mod questions;
 
-/// Room for so many claims; the first `count` places are taken, the oldest first.
+/// Room for so many claims, the oldest first.
 #[derive(Drop)]
 pub struct Table<const ROOM: usize> {
-    places: [Claim; ROOM],
-    count: usize,
-    ghost few: { count ≤ ROOM },
+    claims: ArrayVec<Claim, ROOM>,
+}
+
+// Clauses see the claims, the oldest first.
+impl<const ROOM: usize> Model for Table<ROOM> {
+    ghost use Rattle.std.specs.Prelude.{List};
+    ghost use Rattle.protocol.specs.declared.segment.Claim.{Claim};
+
+    ghost Value = { List Claim };
+
+    ghost view = { λ t. t.claims.items };
 }

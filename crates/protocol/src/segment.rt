@@ -2,7 +2,7 @@ ghost use Rattle.std.specs.Prelude.{◌≡◌};
 ghost use Rattle.protocol.specs.Segments.{begun_before, ends_by, echoed_past};
 
 /// A run of the stream's bytes with its two nonces, as a send answers it and a repeat answers it again.
-#[derive(Clone, Copy, PartialEq, Eq, Debug)]
+#[derive(Clone, Copy, PartialEq, Eq, Debug, Default)]
 pub struct Segment {
     /// The bytes of the stream before it.
     pub start: u64,
@@ -37,7 +37,7 @@ impl Segment {
 }
 
 /// An outstanding segment: sent, and not yet acknowledged to its end.
-#[derive(Clone, Copy)]
+#[derive(Clone, Copy, Default)]
 pub struct Claim {
     pub segment: Segment,
     /// Whether a duplicate was counted for it.

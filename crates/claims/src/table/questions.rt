@@ -1,48 +1,68 @@
-ghost use Rattle.std.specs.Prelude.{◌≡◌, ◌+◌, ◌%◌, ◌^◌, true};
+ghost use Rattle.std.specs.Prelude.{◌≡◌, ◌+◌, ◌%◌, ◌^◌, ◌<◌, ◌↔◌, length, true, IsSome, unwrap_or};
 ghost use Rattle.protocol.specs.Claims.{on, nonce, oldest};
 ghost use Rattle.protocol.specs.Lists.{leads, sum_of};
 ghost use Rattle.protocol.specs.Segments.{begun_before, starts_at};
-ghost use Rattle.claims.specs.Tables.{claims};
 ghost use Rattle.claims.specs.Walks.{Found, Named};
 
 use super::Table;
-use crate::walks;
-use crate::walks::Echo;
+use crate::faults::EchoFault;
 use protocol::segment::Segment;
 
 impl<const ROOM: usize> Table<ROOM> {
     /// The nonces of the claims begun before an end, added to a sum modulo 2^64.
     pub fn sum_before(&self, end: u64, settled: u64) -> u64
-        ensures { result ≡ (settled + sum_of (on (begun_before end)) nonce (claims self.now)) % 2 ^ 64 }
+        ensures { result ≡ (settled + sum_of (on (begun_before end)) nonce self.now) % 2 ^ 64 }
     {
-        walks::sum_before(self.claims(), end, settled)
+        self.claims()
+            .iter()
+            .filter(|claim| claim.segment.begun_before(end))
+            .fold(settled, |sum, claim| sum.wrapping_add(claim.segment.summed))
     }
 
-    /// Looks for a claim that starts beyond the proved end and has the echo.
-    pub fn find_echo(&self, proved: u64, echo: u64) -> Echo
-        ensures { Found proved echo (claims self.now) result }
+    /// The place of the oldest claim that starts beyond the proved end, has the echo and is not spent.
+    pub fn find_echo(&self, proved: u64, echo: u64) -> Result<usize, EchoFault>
+        ensures { Found proved echo self.now result }
     {
-        walks::find_echo(self.claims(), proved, echo)
+        let claims = self.claims();
+        let mut known = false;
+        // The project asks for this loop over the claims with their index.
+        for (i, claim) in claims.iter().enumerate() {
+            if claim.segment.echoed_past(proved, echo) {
+                if !claim.spent {
+                    return Ok(i);
+                }
+                known = true;
+            }
+        }
+        Err(if known {
+            EchoFault::Spent
+        } else {
+            EchoFault::Unknown
+        })
     }
 
     /// The claimed segment that begins at a start.
     pub fn find_start(&self, start: u64) -> Option<Segment>
-        ensures { Named start (claims self.now) result }
+        ensures { Named start self.now result }
     {
-        walks::find_start(self.claims(), start)
+        self.claims()
+            .iter()
+            .map(|claim| claim.segment)
+            .find(|segment| segment.start == start)
     }
 
-    /// Where the oldest claim begins, or 0 where there is none.
-    pub fn oldest_start(&self) -> u64
-        ensures { result ≡ oldest (λ c. true) (claims self.now) }
+    /// Where the oldest claim begins, if there is one.
+    pub fn oldest_start(&self) -> Option<u64>
+        ensures some { IsSome result ↔ (0 < length self.now) }
+        ensures start { unwrap_or result 0 ≡ oldest (λ c. true) self.now }
     {
-        walks::oldest_start(self.claims())
+        self.claims().first().map(|claim| claim.segment.start)
     }
 
     /// Whether there is an oldest claim, and it begins at a start.
     pub fn oldest_is_at(&self, start: u64) -> bool
-        ensures { result ≡ leads (on (starts_at start)) (claims self.now) }
+        ensures { result ≡ leads (on (starts_at start)) self.now }
     {
-        walks::oldest_is_at(self.claims(), start)
+        self.oldest_start().is_some_and(|oldest| oldest == start)
     }
 }

@@ -1,5 +1,0 @@
-use Rattle.claims.proofs.Echoes.{Left}
-use Rattle.claims.proofs.walks.find_echo.Given as goal
-
-abbrev pub invariant-loop-i : goal.invariant-loop-i
-invariant-loop-i l = Left l.proved l.echo l.known l.i l.claims
