@@ -1,4 +1,3 @@
 pub mod Tables
-pub mod Echoes
 pub mod Laid
 pub mod Sums

@@ -1,16 +1,26 @@
--- Nonces added one by one modulo 2^64. Assumes nothing.
-use Rattle.std.proofs.Common.{◌≡◌, ℕ, ◌+◌, ◌%◌, ◌^◌, ◌<◌, Bool, List, [], ◌∷◌, filter, fold, arith}
+-- What the walks over the claims come to. Assumes nothing.
+use Rattle.std.proofs.Common.{◌≡◌, ℕ, ◌+◌, ◌%◌, ◌^◌, ◌<◌, Bool, true, false, cond, List, [], ◌∷◌, Option, Some, None, map, filter, find, fold, refl, arith}
+use Rattle.protocol.specs.declared.segment.Segment.{Segment}
 use Rattle.protocol.specs.declared.segment.Claim.{Claim}
 use Rattle.protocol.specs.Claims.{nonce}
 use Rattle.protocol.specs.Lists.{sum_of}
+use Rattle.protocol.specs.Segments.{starts_at}
+use Rattle.claims.specs.Walks.{Named, segment_of, add_nonce}
 
-abbrev pub add_nonce : ℕ → Claim → ℕ
-add_nonce sum c = (sum + nonce c) % 2 ^ 64
-
--- those of the claims that pass a test, to a sum so far
+-- the nonces of those that pass a test, one by one added to a sum so far
 pub sum_folds : (p : Claim → Bool) (sum : ℕ) (cs : List Claim) → sum < 2 ^ 64 → fold add_nonce sum (filter p cs) ≡ (sum + sum_of p nonce cs) % 2 ^ 64
 sum_folds p sum [] fits = grind arith
 sum_folds p sum (c ∷ cs) fits =
-    let one_more = sum_folds p ((sum + nonce c) % 2 ^ 64) cs in
+    let one_more = sum_folds p (add_nonce sum c) cs in
     let as_before = sum_folds p sum cs in
     grind arith
+
+-- the first segment that starts at o
+pub first_named : (o : ℕ) (cs : List Claim) → Named o cs (find (starts_at o) (map segment_of cs))
+first_named o [] = refl
+first_named o (c ∷ cs) = here (starts_at o c.segment) refl (find (starts_at o) (map segment_of cs)) (first_named o cs)
+  where
+    here : (b : Bool) → starts_at o c.segment ≡ b → (r : Option Segment) → Named o cs r → Named o (c ∷ cs) (cond b (Some c.segment) r)
+    here true is r rest = grind arith
+    here false is None rest = grind arith
+    here false is (Some s) rest = grind arith

@@ -1,10 +1,10 @@
 -- What a walk over the claims finds. Assumes nothing.
-use Rattle.std.specs.Prelude.{◌≡◌, ℕ, ◌<◌, true, false, List, length, get_or, take, Some, None, Option, Ok, Err, Result, slice_index_or}
+use Rattle.std.specs.Prelude.{◌≡◌, ℕ, ◌+◌, ◌%◌, ◌^◌, ◌<◌, true, false, List, length, get_or, take, Some, None, Option, Ok, Err, Result, slice_index_or}
 use Rattle.protocol.specs.declared.segment.Segment.{Segment}
 use Rattle.protocol.specs.declared.segment.Claim.{Claim}
 use Rattle.protocol.specs.Lists.{any}
 use Rattle.protocol.specs.Segments.{starts_at, echoed_past}
-use Rattle.protocol.specs.Claims.{on, unspent, oldest, segment_at}
+use Rattle.protocol.specs.Claims.{on, nonce, unspent, oldest, segment_at}
 use Rattle.claims.specs.Tables.{no_claim}
 use Rattle.claims.specs.declared.faults.EchoFault.{EchoFault}
 use Rattle.claims.specs.declared.faults.EchoFault.TheVariants.{Unknown, Spent}
@@ -27,3 +27,10 @@ Found e x cs (Ok i) = OldestAt e x cs i
 abbrev pub Named : ℕ → List Claim → Option Segment → Type 0
 Named o cs None = any (on (starts_at o)) cs ≡ false
 Named o cs (Some g) = (any (on (starts_at o)) cs ≡ true) × (segment_at o cs ≡ g)
+
+-- the segment of a claim, and a claim's nonce added to a sum
+abbrev pub segment_of : Claim → Segment
+segment_of c = c.segment
+
+abbrev pub add_nonce : ℕ → Claim → ℕ
+add_nonce sum c = (sum + nonce c) % 2 ^ 64

@@ -4,3 +4,4 @@
 
 pub mod faults;
 pub mod table;
+mod walks;

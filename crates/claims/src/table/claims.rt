@@ -9,6 +9,7 @@ ghost use Rattle.claims.specs.contracts.table.Table.{the_row};
 
 use super::Table;
 use crate::faults::TableFull;
+use crate::walks;
 use arrayvec::ArrayVec;
 use protocol::segment::Claim;
 
@@ -40,15 +41,12 @@ impl<const ROOM: usize> Table<ROOM> {
     }
 
     /// Frees the places of the claims that end by an end, and adds their nonces to a sum modulo 2^64.
+    #[tactic(auto, using(crate::proofs::Sums::sum_folds))]
     pub fn retire(&mut self, end: u64, settled: u64) -> u64
         ensures left { self.new ≡ kept_by (on (ends_past end)) self.old }
         ensures sum { result ≡ (settled + sum_of (on (ends_by end)) nonce self.old) % 2 ^ 64 }
     {
-        let sum = self
-            .claims()
-            .iter()
-            .filter(|claim| claim.segment.ends_by(end))
-            .fold(settled, |sum, claim| sum.wrapping_add(claim.segment.summed));
+        let sum = walks::add_ended(self.claims(), end, settled);
         self.claims.retain(|claim| !claim.segment.ends_by(end));
         sum
     }

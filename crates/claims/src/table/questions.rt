@@ -6,17 +6,16 @@ ghost use Rattle.claims.specs.Walks.{Found, Named};
 
 use super::Table;
 use crate::faults::EchoFault;
+use crate::walks;
 use protocol::segment::Segment;
 
 impl<const ROOM: usize> Table<ROOM> {
     /// The nonces of the claims begun before an end, added to a sum modulo 2^64.
+    #[tactic(auto, using(crate::proofs::Sums::sum_folds))]
     pub fn sum_before(&self, end: u64, settled: u64) -> u64
         ensures { result ≡ (settled + sum_of (on (begun_before end)) nonce self.now) % 2 ^ 64 }
     {
-        self.claims()
-            .iter()
-            .filter(|claim| claim.segment.begun_before(end))
-            .fold(settled, |sum, claim| sum.wrapping_add(claim.segment.summed))
+        walks::add_begun(self.claims(), end, settled)
     }
 
     /// The place of the oldest claim that starts beyond the proved end, has the echo and is not spent.
@@ -42,13 +41,11 @@ impl<const ROOM: usize> Table<ROOM> {
     }
 
     /// The claimed segment that begins at a start.
+    #[tactic(auto, using(crate::proofs::Sums::first_named))]
     pub fn find_start(&self, start: u64) -> Option<Segment>
         ensures { Named start self.now result }
     {
-        self.claims()
-            .iter()
-            .map(|claim| claim.segment)
-            .find(|segment| segment.start == start)
+        walks::first_at(self.claims(), start)
     }
 
     /// Where the oldest claim begins, if there is one.
