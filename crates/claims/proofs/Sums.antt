@@ -5,7 +5,7 @@ use Rattle.protocol.specs.declared.segment.Claim.{Claim}
 use Rattle.protocol.specs.Claims.{nonce}
 use Rattle.protocol.specs.Lists.{sum_of}
 use Rattle.protocol.specs.Segments.{starts_at}
-use Rattle.claims.specs.Walks.{Named, segment_of, add_nonce}
+use Rattle.claims.specs.Walks.{Named, add_nonce}
 
 -- the nonces of those that pass a test, one by one added to a sum so far
 pub sum_folds : (p : Claim → Bool) (sum : ℕ) (cs : List Claim) → sum < 2 ^ 64 → fold add_nonce sum (filter p cs) ≡ (sum + sum_of p nonce cs) % 2 ^ 64
@@ -16,9 +16,9 @@ sum_folds p sum (c ∷ cs) fits =
     grind arith
 
 -- the first segment that starts at o
-pub first_named : (o : ℕ) (cs : List Claim) → Named o cs (find (starts_at o) (map segment_of cs))
+pub first_named : (o : ℕ) (cs : List Claim) → Named o cs (find (starts_at o) (map (λ (c : Claim). c.segment) cs))
 first_named o [] = refl
-first_named o (c ∷ cs) = here (starts_at o c.segment) refl (find (starts_at o) (map segment_of cs)) (first_named o cs)
+first_named o (c ∷ cs) = here (starts_at o c.segment) refl (find (starts_at o) (map (λ (c : Claim). c.segment) cs)) (first_named o cs)
   where
     here : (b : Bool) → starts_at o c.segment ≡ b → (r : Option Segment) → Named o cs r → Named o (c ∷ cs) (cond b (Some c.segment) r)
     here true is r rest = grind arith

@@ -18,6 +18,7 @@ pub record OldestAt (e x : ℕ) (cs : List Claim) (i : ℕ) : Type 0 where
   pub some : any (unspent e x) cs ≡ true
   pub start : oldest (unspent e x) cs ≡ (get_or cs i no_claim).segment.start
 
+-- what a search for the echo x past e answers: the place of that claim, or why there is none
 abbrev pub Found : ℕ → ℕ → List Claim → Result ℕ EchoFault → Type 0
 Found e x cs (Err Unknown) = any (on (echoed_past e x)) cs ≡ false
 Found e x cs (Err Spent) = (any (on (echoed_past e x)) cs ≡ true) × (any (unspent e x) cs ≡ false)
@@ -28,9 +29,6 @@ abbrev pub Named : ℕ → List Claim → Option Segment → Type 0
 Named o cs None = any (on (starts_at o)) cs ≡ false
 Named o cs (Some g) = (any (on (starts_at o)) cs ≡ true) × (segment_at o cs ≡ g)
 
--- the segment of a claim, and a claim's nonce added to a sum
-abbrev pub segment_of : Claim → Segment
-segment_of c = c.segment
-
+-- a claim's nonce added to a sum, modulo 2^64
 abbrev pub add_nonce : ℕ → Claim → ℕ
 add_nonce sum c = (sum + nonce c) % 2 ^ 64

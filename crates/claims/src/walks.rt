@@ -1,7 +1,7 @@
 ghost use Rattle.std.specs.Prelude.{◌≡◌, filter, find, fold, map};
 ghost use Rattle.protocol.specs.Claims.{on};
 ghost use Rattle.protocol.specs.Segments.{begun_before, ends_by, starts_at};
-ghost use Rattle.claims.specs.Walks.{add_nonce, segment_of};
+ghost use Rattle.claims.specs.Walks.{add_nonce};
 
 use protocol::segment::{Claim, Segment};
 
@@ -27,7 +27,7 @@ pub(crate) fn add_ended(claims: &[Claim], end: u64, sum: u64) -> u64
 
 /// The oldest claimed segment that begins at a start.
 pub(crate) fn first_at(claims: &[Claim], start: u64) -> Option<Segment>
-    ensures { result ≡ find (starts_at start) (map segment_of claims.now) }
+    ensures { result ≡ find (starts_at start) (map (λ c. c.segment) claims.now) }
 {
     claims
         .iter()

@@ -33,11 +33,10 @@ impl<const ROOM: usize> Table<ROOM> {
                 known = true;
             }
         }
-        Err(if known {
-            EchoFault::Spent
-        } else {
-            EchoFault::Unknown
-        })
+        if known {
+            return Err(EchoFault::Spent);
+        }
+        Err(EchoFault::Unknown)
     }
 
     /// The claimed segment that begins at a start.
