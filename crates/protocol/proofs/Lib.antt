@@ -1,7 +1,6 @@
 pub mod Lists
 pub mod Filters
 pub mod Counts
-pub mod Sends
 pub mod Steps
 pub mod ClaimTable
 pub mod Signals

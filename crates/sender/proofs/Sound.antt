@@ -1,5 +1,5 @@
 -- What always holds of a sender, after each thing that is done to its claims. Assumes nothing.
-use Rattle.std.proofs.Common.{◌≡◌, ℕ, ◌+◌, ◌^◌, ◌<◌, ◌≤◌, Bool, false, List, [], ◌∷◌, ◌++◌, length, get_or, set, arith}
+use Rattle.std.proofs.Common.{◌≡◌, ℕ, ◌+◌, ◌^◌, ◌<◌, ◌≤◌, Bool, false, List, [], ◌∷◌, ◌++◌, length, get_or, set, sym, arith}
 use Rattle.protocol.specs.declared.segment.Claim.{Claim}
 use Rattle.protocol.specs.declared.segment.Segment.{Segment}
 use Rattle.protocol.specs.Claims.{claim_for, spend}
@@ -27,15 +27,19 @@ module _ (sent proved duplicates : ℕ) (cs : List Claim) (sound : Sound sent pr
     marked = spent_push duplicates cs (claim_for g) sound.marked;
   }
 
-  module _ (i : ℕ) (there : i < length cs) (fresh : (get_or cs i no_claim).spent ≡ false) where
+  module _ (i : ℕ) (there : i < length cs) where
     -- a duplicate is counted for a claim that was not spent, and marks it
-    pub sound_marked : Sound sent proved (duplicates + 1) (set cs i (marked (get_or cs i no_claim)))
-    sound_marked = record {
+    pub sound_marked : (get_or cs i no_claim).spent ≡ false → Sound sent proved (duplicates + 1) (set cs i (marked (get_or cs i no_claim)))
+    sound_marked unspent = record {
       within = sound.within;
       limited = sound.limited;
       ordered = laid_marked 0 cs sent i sound.ordered there;
-      marked = let m = sound.marked in omega (arith, spent_set cs i there fresh);
+      marked = let m = sound.marked in omega (arith, spent_set cs i there unspent);
     }
+
+    -- no other claim starts there, so that the mark of this one is what the rules say of its start
+    pub marked_is_spent : set cs i (marked (get_or cs i no_claim)) ≡ spend (get_or cs i no_claim).segment.start cs
+    marked_is_spent = sym (spend_set 0 cs sent i sound.ordered there)
 
   -- there are no more duplicates than claims
   pub duplicates_few : duplicates ≤ length cs

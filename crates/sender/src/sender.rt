@@ -40,15 +40,14 @@ pub struct Sender<C: Controller, N: NonceSource, S = Sending> {
 /// Contracts see a sender as a state of the rules. Nothing of it is left out but its stage.
 impl<C: Controller, N: NonceSource, S> Model for Sender<C, N, S> {
     ghost use Rattle.protocol.specs.Calls.{State};
-    ghost use Rattle.claims.specs.Tables.{claims};
 
     ghost Value = { State C };
 
     ghost use Rattle.sender.specs.Sound.{Sound};
 
-    ghost view = { λ s. record { control = s.controller; words = N.words s.nonces; claims = claims s.table; settled = s.settled; sent = s.sent; proved = s.proved; duplicates = s.duplicates; due = s.repeat_due } };
+    ghost view = { λ s. record { control = s.controller; words = N.words s.nonces; claims = s.table; settled = s.settled; sent = s.sent; proved = s.proved; duplicates = s.duplicates; due = s.repeat_due } };
 
-    ghost invariant = { λ s. Sound s.sent s.proved s.duplicates (claims s.table) };
+    ghost invariant = { λ s. Sound s.sent s.proved s.duplicates s.table };
 }
 
 pub type FinishedSender<C, N> = Sender<C, N, Finished>;

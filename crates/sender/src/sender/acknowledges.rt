@@ -6,7 +6,7 @@ ghost use Rattle.claims.specs.Tables.{no_claim};
 ghost use Rattle.sender.specs.Parts.{freed};
 
 use super::Sender;
-use claims::walks::Echo;
+use claims::faults::EchoFault;
 use congestion::controller::Controller;
 use nonce::source::NonceSource;
 use protocol::answer::Acknowledged;
@@ -40,15 +40,16 @@ impl<C: Controller, N: NonceSource, S> Sender<C, N, S> {
             return Ok(Acknowledged::Advanced);
         }
         match self.table.find_echo(self.proved, echo) {
-            Echo::Unknown => Err(SenderFault::UnknownEcho { end }),
-            Echo::Spent => Err(SenderFault::SpentEcho { end }),
-            Echo::Unspent(place) => Ok(self.count_duplicate(place)),
+            Ok(place) => Ok(self.count_duplicate(place)),
+            Err(EchoFault::Unknown) => Err(SenderFault::UnknownEcho { end }),
+            Err(EchoFault::Spent) => Err(SenderFault::SpentEcho { end }),
         }
     }
 
     // An acknowledgement beyond the proved end: the rise is credited, and the claims that it covers go.
     fn advance(&mut self, end: u64)
-        requires { (self.old.proved ≤ end) × (end ≤ self.old.sent) }
+        requires beyond { self.old.proved ≤ end }
+        requires within { end ≤ self.old.sent }
         ensures { self.new ≡ after_advance C.control self.old end }
     {
         self.controller.credit(end - self.proved);
@@ -69,7 +70,8 @@ impl<C: Controller, N: NonceSource, S> Sender<C, N, S> {
 
     // A duplicate is counted for the claim at a place; the third tells a loss.
     fn count_duplicate(&mut self, place: usize) -> Acknowledged
-        requires { (place < length self.old.claims) × ((slice_index_or self.old.claims place no_claim).spent ≡ false) }
+        requires there { place < length self.old.claims }
+        requires unspent { (slice_index_or self.old.claims place no_claim).spent ≡ false }
         ensures { duplicate_counted C.control self.old (slice_index_or self.old.claims place no_claim).segment.start ≡ told (progress result) self.new }
     {
         let start = self.spend(place);
@@ -84,7 +86,8 @@ impl<C: Controller, N: NonceSource, S> Sender<C, N, S> {
 
     // Marks the claim at a place, counts one duplicate more, and tells where the claim's segment begins.
     fn spend(&mut self, place: usize) -> u64
-        requires { (place < length self.old.claims) × ((slice_index_or self.old.claims place no_claim).spent ≡ false) }
+        requires there { place < length self.old.claims }
+        requires unspent { (slice_index_or self.old.claims place no_claim).spent ≡ false }
         ensures start { result ≡ (slice_index_or self.old.claims place no_claim).segment.start }
         ensures state { self.new ≡ after_duplicate C.control self.old result false }
     {

@@ -21,7 +21,7 @@ impl<C: Controller, N: NonceSource, S> Sender<C, N, S> {
             return Err(SenderFault::NoRepeatDue { sent });
         }
         self.repeat_due = false;
-        Ok(Order::new(self.table.oldest_start()))
+        Ok(Order::new(self.table.oldest_start().unwrap_or(0)))
     }
 
     /// Spends an order: the same segment again, unless it has been acknowledged meanwhile.

@@ -59,10 +59,11 @@ impl<C: Controller, N: NonceSource> Sender<C, N> {
         requires room { count self.old.claims < 64 }
         ensures { self.new ≡ entered self.old segment }
     {
-        self.table.push(Claim {
+        let claim = Claim {
             segment,
             spent: false,
-        });
+        };
+        self.table.push(claim).unwrap();
         self.sent += segment.length as u64;
     }
 }

@@ -1,13 +1,11 @@
-use Rattle.std.proofs.Common.{◌≡◌, ◌+◌, ◌^◌, ◌<◌, ◌≤◌, length, ap, arith}
-use Rattle.claims.specs.Tables.{claims}
+use Rattle.std.proofs.Common.{ap}
 use Rattle.claims.proofs.Tables.{entered}
 use Rattle.sender.proofs.Sound.{sound_entered}
 use Rattle.sender.proofs.sender.sends.Sender+C+N.enter.Goals as goal
 
 pub invariant_of-self : goal.invariant_of-self
 invariant_of-self g c =
-    let s = c.self.inside in
     let sent = ap (λ t. t.sent) c.self.view_is in
     let same = ap (λ t. t.claims) c.self.view_is in
-    let more = entered 64 _ _ _ _ c.push.ensures.free c.push.ensures.entered (rw same c.requires.room) in
-    rw more (sound_entered _ _ _ _ c.self.invariant c.args.segment (rw sent c.requires.next) c.requires.some (rw sent c.requires.holds))
+    rw (entered 64 _ _ _ _ c.push.ensures.free c.push.ensures.entered (rw same c.requires.room))
+    (sound_entered _ _ _ _ c.self.invariant c.args.segment (rw sent c.requires.next) c.requires.some (rw sent c.requires.holds))
