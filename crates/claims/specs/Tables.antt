@@ -8,4 +8,4 @@ no_claim = record { segment = record { start = 0; length = 0; summed = 0; single
 
 -- the claim c, spent
 abbrev pub marked : Claim → Claim
-marked c = record { segment = c.segment; spent = true }
+marked c = record c { spent = true }

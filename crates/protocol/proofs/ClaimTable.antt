@@ -90,7 +90,7 @@ module _ {C : Type 0} {ws : List ℕ} {s : State C} {gs : List Segment} {os : Li
       new g lies passes = grind (arith, nat_tests)
 
   -- what the table leaves out may change
-  unmoved : (c : C) (d : ℕ) (b : Bool) → ClaimTable ws (record { control = c; words = s.words; claims = s.claims; settled = s.settled; sent = s.sent; proved = s.proved; duplicates = d; due = b }) gs os
+  unmoved : (c : C) (d : ℕ) (b : Bool) → ClaimTable ws (record s { control = c; duplicates = d; due = b }) gs os
   unmoved c d b = record { sent = t.sent; words = t.words; within = t.within; lie = t.lie; seen = t.seen; claims = t.claims; settled = t.settled }
 
   sent_table : (g : Segment) → g.start ≡ s.sent → 0 < g.length → ClaimTable ws (after_send s g) (gs ++ (g ∷ [])) os

@@ -25,23 +25,11 @@ use Rattle.protocol.proofs.ClaimTable.{ClaimTable, Lies, claim}
 
 -- v for the summed nonce of the claim at o
 abbrev pub renonced : ℕ → ℕ → Claim → Claim
-renonced o v c = record {
-  segment = record { start = c.segment.start; length = c.segment.length; summed = cond (on (starts_at o) c) v (nonce c); single = c.segment.single };
-  spent = c.spent;
-}
+renonced o v c = record c { segment = record c.segment { summed = cond (on (starts_at o) c) v (nonce c) } }
 
 -- and the words vs still to come
 abbrev pub other : {C : Type 0} → ℕ → ℕ → List ℕ → State C → State C
-other o v vs s = record {
-  control = s.control;
-  words = vs;
-  claims = map (renonced o v) s.claims;
-  settled = s.settled;
-  sent = s.sent;
-  proved = s.proved;
-  duplicates = s.duplicates;
-  due = s.due;
-}
+other o v vs s = record s { words = vs; claims = map (renonced o v) s.claims }
 
 -- an acknowledgement ends at o or before
 abbrev Upto : ℕ → Call → Type 0

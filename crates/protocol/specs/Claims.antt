@@ -32,4 +32,4 @@ segment_at o (c ∷ cs) = cond (starts_at o c.segment) c.segment (segment_at o c
 -- the claim that starts at o is marked, the others stay
 abbrev pub spend : ℕ → List Claim → List Claim
 spend o [] = []
-spend o (c ∷ cs) = record { segment = c.segment; spent = starts_at o c.segment || c.spent } ∷ spend o cs
+spend o (c ∷ cs) = record c { spent = starts_at o c.segment || c.spent } ∷ spend o cs

@@ -23,13 +23,4 @@ module _ {C : Type 0} (k : Control C) (s : State C) where
 
 -- the same sender with other words to come
 abbrev pub with_words : {C : Type 0} → State C → List ℕ → State C
-with_words s ws = record {
-  control = s.control;
-  words = ws;
-  claims = s.claims;
-  settled = s.settled;
-  sent = s.sent;
-  proved = s.proved;
-  duplicates = s.duplicates;
-  due = s.due;
-}
+with_words s ws = record s { words = ws }

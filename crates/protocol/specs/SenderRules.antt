@@ -24,41 +24,18 @@ module _ {C : Type 0} where
   next s l = record { start = s.sent; length = l; summed = slice_index s.words 0; single = slice_index s.words 1 }
 
   abbrev pub after_send : State C → Segment → State C
-  after_send s g = record {
-    control = s.control;
+  after_send s g = record s {
     words = drop 2 s.words;
     claims = s.claims ++ (claim_for g ∷ []);
-    settled = s.settled;
     sent = s.sent + g.length;
-    proved = s.proved;
-    duplicates = s.duplicates;
-    due = s.due;
   }
 
   abbrev pub after_take : State C → State C
-  after_take s = record {
-    control = s.control;
-    words = s.words;
-    claims = s.claims;
-    settled = s.settled;
-    sent = s.sent;
-    proved = s.proved;
-    duplicates = s.duplicates;
-    due = false;
-  }
+  after_take s = record s { due = false }
 
   -- the same, with a repeat due or not
   abbrev pub with_due : State C → Bool → State C
-  with_due s b = record {
-    control = s.control;
-    words = s.words;
-    claims = s.claims;
-    settled = s.settled;
-    sent = s.sent;
-    proved = s.proved;
-    duplicates = s.duplicates;
-    due = b;
-  }
+  with_due s b = record s { due = b }
 
 module _ {C : Type 0} (k : Control C) where
   -- how many bytes may be in flight: a segment more than the window for each duplicate
@@ -88,12 +65,10 @@ module _ {C : Type 0} (k : Control C) where
 
   -- an end e beyond the proved one: the claims that end by e go, and what they add to a sum is kept
   abbrev pub after_advance : State C → ℕ → State C
-  after_advance s e = record {
+  after_advance s e = record s {
     control = k.credit s.control (e - s.proved);
-    words = s.words;
     claims = kept_by (on (ends_past e)) s.claims;
     settled = (s.settled + sum_of (on (ends_by e)) nonce s.claims) % 2 ^ 64;
-    sent = s.sent;
     proved = e;
     duplicates = 0;
     due = false;
@@ -101,28 +76,15 @@ module _ {C : Type 0} (k : Control C) where
 
   -- a duplicate counted for the claim at o, and whether it is the third
   abbrev pub after_duplicate : State C → ℕ → Bool → State C
-  after_duplicate s o third = record {
+  after_duplicate s o third = record s {
     control = cond third (k.loss s.control (in_flight s)) s.control;
-    words = s.words;
     claims = spend o s.claims;
-    settled = s.settled;
-    sent = s.sent;
-    proved = s.proved;
     duplicates = s.duplicates + 1;
     due = third || s.due;
   }
 
   abbrev pub after_timeout : State C → State C
-  after_timeout s = record {
-    control = k.timeout s.control (in_flight s);
-    words = s.words;
-    claims = s.claims;
-    settled = s.settled;
-    sent = s.sent;
-    proved = s.proved;
-    duplicates = 0;
-    due = true;
-  }
+  after_timeout s = record s { control = k.timeout s.control (in_flight s); duplicates = 0; due = true }
 
   -- a duplicate that is counted for the claim at o; the third tells a loss
   abbrev pub duplicate_counted : State C → ℕ → Reply C

@@ -11,26 +11,12 @@ abbrev pub drawn_from : List ℕ → ℕ → ℕ → Segment
 drawn_from ws o l = record { start = o; length = l; summed = slice_index ws 0; single = slice_index ws 1 }
 
 abbrev pub entered : {C : Type 0} → State C → Segment → State C
-entered s g = record {
-  control = s.control;
-  words = s.words;
-  claims = s.claims ++ (claim_for g ∷ []);
-  settled = s.settled;
-  sent = s.sent + g.length;
-  proved = s.proved;
-  duplicates = s.duplicates;
-  due = s.due;
-}
+entered s g = record s { claims = s.claims ++ (claim_for g ∷ []); sent = s.sent + g.length }
 
 -- and of an advance: the claims that the end e covers are freed
 abbrev pub freed : {C : Type 0} → State C → ℕ → State C
-freed s e = record {
-  control = s.control;
-  words = s.words;
+freed s e = record s {
   claims = kept_by (on (ends_past e)) s.claims;
   settled = (s.settled + sum_of (on (ends_by e)) nonce s.claims) % 2 ^ 64;
-  sent = s.sent;
   proved = e;
-  duplicates = s.duplicates;
-  due = s.due;
 }
