@@ -21,7 +21,7 @@ impl Fault for ControllerFault {
 
     fn label(&self) -> Label {
         match self {
-            ControllerFault::Segment(size) => Label::at(1, *size as u64),
+            ControllerFault::Segment(size) => Label::at(1, u64::from(*size)),
         }
     }
 }

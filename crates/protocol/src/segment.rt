@@ -25,7 +25,7 @@ impl Segment {
     pub fn ends_by(&self, end: u64) -> bool
         ensures { result ≡ ends_by end self.now }
     {
-        self.start <= end && self.length as u64 <= end - self.start
+        self.start <= end && u64::from(self.length) <= end - self.start
     }
 
     /// Whether it starts beyond an end and its single nonce is the echo.

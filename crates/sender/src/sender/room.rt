@@ -18,7 +18,7 @@ impl<C: Controller, N: NonceSource, S> Sender<C, N, S> {
     pub fn allowance(&self) -> u64
         ensures { result ≡ allowance_by_rule C.control self.now }
     {
-        self.window() as u64 + self.controller.segment() as u64 * self.duplicates as u64
+        u64::from(self.window()) + u64::from(self.controller.segment()) * u64::from(self.duplicates)
     }
 
     // The bytes sent and not yet acknowledged.

@@ -23,16 +23,16 @@ impl<C: Controller, N: NonceSource> Sender<C, N> {
         ensures { first_refusal (checks C.control self.now (Call.send length)) ≡ refusal_in result }
     {
         let sent = self.sent;
-        if length == 0 || length as u32 > self.controller.segment() {
+        if length == 0 || u32::from(length) > self.controller.segment() {
             return Err(SenderFault::Length { sent });
         }
-        if sent + length as u64 > MOST_BYTES {
+        if sent + u64::from(length) > MOST_BYTES {
             return Err(SenderFault::StreamFull { sent });
         }
         if self.table.claims().len() >= MOST_CLAIMS {
             return Err(SenderFault::TableFull { sent });
         }
-        if self.in_flight() + length as u64 > self.allowance() {
+        if self.in_flight() + u64::from(length) > self.allowance() {
             return Err(SenderFault::Allowance { sent });
         }
         if self.nonces.left() < 2 {
@@ -64,7 +64,7 @@ impl<C: Controller, N: NonceSource> Sender<C, N> {
             spent: false,
         };
         self.table.push(claim).unwrap();
-        self.sent += segment.length as u64;
+        self.sent += u64::from(segment.length);
     }
 }
 
