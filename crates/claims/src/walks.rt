@@ -5,6 +5,8 @@ ghost use Rattle.claims.specs.Walks.{add_nonce};
 
 use protocol::segment::{Claim, Segment};
 
+// A chain for each test: one that is passed the test has a clause on closures that is longer than the chain, and no plainer.
+
 /// Adds the nonces of the claims begun before an end to a sum modulo 2^64.
 pub(crate) fn add_begun(claims: &[Claim], end: u64, sum: u64) -> u64
     ensures { result ≡ fold add_nonce sum (filter (on (begun_before end)) claims.now) }
