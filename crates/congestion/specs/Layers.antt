@@ -1,25 +1,32 @@
 -- Layers over another controller: events go down to it unchanged, and only the window differs. Assumes nothing.
-use Rattle.std.specs.Prelude.{◌*◌, ◌/◌, min, max}
+use Rattle.std.specs.Prelude.{ℕ, ◌*◌, ◌/◌, min, max}
 use Rattle.congestion.specs.Control.{Control}
-use Rattle.congestion.specs.declared.cap.Cap.{Cap}
-use Rattle.congestion.specs.declared.share.Share.{Share}
+use Rattle.congestion.specs.declared.cap.AtMost.{AtMost}
+use Rattle.congestion.specs.declared.narrowed.Narrowed.{Narrowed}
+use Rattle.congestion.specs.declared.share.Eighths.{Eighths}
+
+-- over the control k: as the rule bounds the window, and at least a segment
+abbrev pub narrowed : {C R : Type 0} → Control C → (R → ℕ → ℕ) → Control (Narrowed C R)
+narrowed k bound = record {
+  segment = λ s. k.segment s.below;
+  window = λ s. max (bound s.rule (k.window s.below)) (k.segment s.below);
+  credit = λ s n. record { below = k.credit s.below n; rule = s.rule };
+  loss = λ s f. record { below = k.loss s.below f; rule = s.rule };
+  timeout = λ s f. record { below = k.timeout s.below f; rule = s.rule };
+}
+
+-- a window of w bytes, but at most the cap
+abbrev pub at_most : AtMost → ℕ → ℕ
+at_most r w = min w r.cap
+
+-- so many eighths, of 1 to 8, of a window of w bytes
+abbrev pub some_eighths : Eighths → ℕ → ℕ
+some_eighths r w = w * max 1 (min r.eighths 8) / 8
 
 -- over the control k: at most the cap, and at least a segment
-abbrev pub capped : {C : Type 0} → Control C → Control (Cap C)
-capped k = record {
-  segment = λ s. k.segment s.below;
-  window = λ s. max (min (k.window s.below) s.cap) (k.segment s.below);
-  credit = λ s n. record { below = k.credit s.below n; cap = s.cap };
-  loss = λ s f. record { below = k.loss s.below f; cap = s.cap };
-  timeout = λ s f. record { below = k.timeout s.below f; cap = s.cap };
-}
+abbrev pub capped : {C : Type 0} → Control C → Control (Narrowed C AtMost)
+capped k = narrowed k at_most
 
 -- over the control k: so many eighths, of 1 to 8, and at least a segment
-abbrev pub shared : {C : Type 0} → Control C → Control (Share C)
-shared k = record {
-  segment = λ s. k.segment s.below;
-  window = λ s. max (k.window s.below * max 1 (min s.eighths 8) / 8) (k.segment s.below);
-  credit = λ s n. record { below = k.credit s.below n; eighths = s.eighths };
-  loss = λ s f. record { below = k.loss s.below f; eighths = s.eighths };
-  timeout = λ s f. record { below = k.timeout s.below f; eighths = s.eighths };
-}
+abbrev pub shared : {C : Type 0} → Control C → Control (Narrowed C Eighths)
+shared k = narrowed k some_eighths

@@ -7,6 +7,7 @@ pub mod Growths
 pub mod RenoRules
 pub mod IiadRules
 pub mod Layers
+pub mod Shares
 pub mod AtOnce
 pub mod Repeats
 pub mod Fillings

@@ -1,49 +1,38 @@
 ghost use Rattle.std.specs.Prelude.{◌≡◌};
-ghost use Rattle.congestion.specs.Layers.{capped};
-ghost use Rattle.std.proofs.Common.{rules};
+ghost use Rattle.congestion.specs.Layers.{at_most};
+ghost use Rattle.std.proofs.Common.{arith};
 
 use crate::controller::Controller;
+use crate::narrowed::{Narrowed, Narrowing};
+
+/// No wider than `cap`.
+#[derive(Drop)]
+pub struct AtMost {
+    pub cap: u32,
+}
+
+impl Narrowing for AtMost {
+    ghost bound = { at_most };
+
+    fn bound(&self, window: u32) -> u32 {
+        window.min(self.cap)
+    }
+
+    ghost no_wider = { λ r w. omega arith };
+
+    ghost monotone = { λ r v w h. omega arith };
+}
 
 /// The window below, but no wider than `cap`, and of at least one segment.
-#[derive(Drop)]
-pub struct Cap<C> {
-    below: C,
-    cap: u32,
-}
+pub type Cap<C> = Narrowed<C, AtMost>;
 
 impl<C: Controller> Cap<C> {
     /// Over the controller `below`, which may be in any condition.
     pub fn new(below: C, cap: u32) -> Cap<C>
         ensures below { result.below ≡ below }
-        ensures cap { result.cap ≡ cap }
+        ensures cap { result.rule.cap ≡ cap }
     {
-        Cap { below, cap }
-    }
-}
-
-impl<C: Controller> Controller for Cap<C> {
-    ghost control = { capped C.Controller.control };
-
-    ghost lawful = { Prim.search rules };
-
-    fn window(&self) -> u32 {
-        let segment = self.segment();
-        self.below.window().min(self.cap).max(segment)
-    }
-
-    fn segment(&self) -> u32 {
-        self.below.segment()
-    }
-
-    fn credit(&mut self, bytes: u64) {
-        self.below.credit(bytes);
-    }
-
-    fn loss(&mut self, flight: u64) {
-        self.below.loss(flight);
-    }
-
-    fn timeout(&mut self, flight: u64) {
-        self.below.timeout(flight);
+        let rule = AtMost { cap };
+        Narrowed { below, rule }
     }
 }
