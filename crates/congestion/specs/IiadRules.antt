@@ -4,43 +4,44 @@ use Rattle.std.proofs.Common.{arith}
 use Rattle.congestion.specs.Control.{Control}
 use Rattle.congestion.specs.Repeat.{times, times_keeps}
 use Rattle.congestion.specs.Starts.{first_window, Makes}
-use Rattle.congestion.specs.Growths.{fresh, fill, Bounded, fresh_bounded, fill_bounded}
+use Rattle.congestion.specs.Growths.{Sizes, inverse, fresh, fill, Bounded}
+use Rattle.congestion.specs.Increases.{inverse_never_zero}
+use Rattle.congestion.specs.Bounds.{fresh_bounded, fill_bounded}
+use Rattle.congestion.specs.Views.{sizes, resized}
 use Rattle.congestion.specs.declared.faults.ControllerFault.{ControllerFault}
-use Rattle.congestion.specs.declared.growth.Growth.{Growth}
-use Rattle.congestion.specs.declared.growth.Increase.TheVariants.{Inverse}
 use Rattle.congestion.specs.declared.iiad.Iiad.{Iiad}
 
 -- after n credited bytes
-abbrev pub credited : Iiad → ℕ → Growth
-credited s n = times n (fill Inverse) s.growth
+abbrev pub credited : Iiad → ℕ → Sizes
+credited s n = times n (fill inverse) (sizes s.growth)
 
 -- after a loss: a segment narrower, but at least one segment
-abbrev pub lost : Iiad → Growth
+abbrev pub lost : Iiad → Sizes
 lost s = fresh s.growth.segment (max (s.growth.window - s.growth.segment) s.growth.segment)
 
 -- after a timeout
-abbrev pub timed_out : Iiad → Growth
+abbrev pub timed_out : Iiad → Sizes
 timed_out s = fresh s.growth.segment s.growth.segment
 
 -- each of these is within the bounds, which an Iiad carries with it
-pub credited_bounded : (s : Iiad) (n : ℕ) → Bounded Inverse (credited s n)
-credited_bounded s n = times_keeps (Bounded Inverse) (fill Inverse) (fill_bounded Inverse) n s.growth s.bounded
+pub credited_bounded : (s : Iiad) (n : ℕ) → Bounded inverse (credited s n)
+credited_bounded s n = times_keeps (Bounded inverse) (fill inverse) (fill_bounded inverse inverse_never_zero) n (sizes s.growth) s.growth.bounded
 
-pub lost_bounded : (s : Iiad) → Bounded Inverse (lost s)
-lost_bounded s = let b = s.bounded in fresh_bounded Inverse s.growth.segment (lost s).window b.0 b.1 (omega arith) (omega arith)
+pub lost_bounded : (s : Iiad) → Bounded inverse (lost s)
+lost_bounded s = let b = s.growth.bounded in fresh_bounded inverse inverse_never_zero s.growth.segment (lost s).window b.0 b.1 (omega arith) (omega arith)
 
-pub timed_out_bounded : (s : Iiad) → Bounded Inverse (timed_out s)
-timed_out_bounded s = let b = s.bounded in fresh_bounded Inverse s.growth.segment s.growth.segment b.0 b.1 (omega arith) (omega arith)
+pub timed_out_bounded : (s : Iiad) → Bounded inverse (timed_out s)
+timed_out_bounded s = let b = s.growth.bounded in fresh_bounded inverse inverse_never_zero s.growth.segment s.growth.segment b.0 b.1 (omega arith) (omega arith)
 
 abbrev pub iiad : Control Iiad
 iiad = record {
   segment = λ s. s.growth.segment;
   window = λ s. s.growth.window;
-  credit = λ s n. record { growth = credited s n; bounded = credited_bounded s n };
-  loss = λ s f. record { growth = lost s; bounded = lost_bounded s };
-  timeout = λ s f. record { growth = timed_out s; bounded = timed_out_bounded s };
+  credit = λ s n. record { growth = resized s.growth (credited s n) (credited_bounded s n) };
+  loss = λ s f. record { growth = resized s.growth (lost s) (lost_bounded s) };
+  timeout = λ s f. record { growth = resized s.growth (timed_out s) (timed_out_bounded s) };
 }
 
 -- a new Iiad
 abbrev pub IiadStarts : ℕ → Result Iiad ControllerFault → Type 0
-IiadStarts m = Makes (λ s. s.growth ≡ fresh m (first_window m)) m
+IiadStarts m = Makes (λ s. sizes s.growth ≡ fresh m (first_window m)) m

@@ -4,6 +4,9 @@ pub mod Control
 pub mod Faults
 pub mod Starts
 pub mod Growths
+pub mod Increases
+pub mod Bounds
+pub mod Views
 pub mod RenoRules
 pub mod IiadRules
 pub mod Layers

@@ -5,64 +5,65 @@ use Rattle.congestion.specs.Choice.{choice}
 use Rattle.congestion.specs.Control.{Control}
 use Rattle.congestion.specs.Repeat.{times, times_keeps}
 use Rattle.congestion.specs.Starts.{first_window, Makes}
-use Rattle.congestion.specs.Growths.{at, fresh, fill, Bounded, fresh_bounded, fill_bounded}
+use Rattle.congestion.specs.Growths.{Sizes, additive, at, fresh, fill, Bounded}
+use Rattle.congestion.specs.Increases.{additive_never_zero}
+use Rattle.congestion.specs.Bounds.{fresh_bounded, fill_bounded}
+use Rattle.congestion.specs.Views.{sizes, resized}
 use Rattle.congestion.specs.declared.faults.ControllerFault.{ControllerFault}
-use Rattle.congestion.specs.declared.growth.Growth.{Growth}
-use Rattle.congestion.specs.declared.growth.Increase.TheVariants.{Additive}
 use Rattle.congestion.specs.declared.reno.Reno.{Reno}
 
 -- below the threshold: a byte wider
-abbrev pub climb : Growth → Growth
+abbrev pub climb : Sizes → Sizes
 climb g = at g (g.window + 1) g.carry
 
 -- one credited byte, at the threshold t
-abbrev pub byte : ℕ → Growth → Growth
-byte t g = cond (nat_lt g.window t) (climb g) (fill Additive g)
+abbrev pub byte : ℕ → Sizes → Sizes
+byte t g = cond (nat_lt g.window t) (climb g) (fill additive g)
 
 -- after n credited bytes
-abbrev pub credited : Reno → ℕ → Growth
-credited s n = times n (byte s.threshold) s.growth
+abbrev pub credited : Reno → ℕ → Sizes
+credited s n = times n (byte s.threshold) (sizes s.growth)
 
 -- the threshold after a loss or a timeout: half of the f bytes in flight, but at least two segments of m bytes
 abbrev pub halved : ℕ → ℕ → ℕ
 halved m f = min (max (f / 2) (2 * m)) (2 ^ 24)
 
 -- after a loss with f bytes in flight
-abbrev pub lost : Reno → ℕ → Growth
+abbrev pub lost : Reno → ℕ → Sizes
 lost s f = fresh s.growth.segment (min s.growth.window (halved s.growth.segment f))
 
 -- after a timeout
-abbrev pub timed_out : Reno → Growth
+abbrev pub timed_out : Reno → Sizes
 timed_out s = fresh s.growth.segment s.growth.segment
 
 -- each of these is within the bounds, which a Reno carries with it
-pub byte_bounded : (t : ℕ) → t ≤ 2 ^ 24 → (g : Growth) → Bounded Additive g → Bounded Additive (byte t g)
+pub byte_bounded : (t : ℕ) → t ≤ 2 ^ 24 → (g : Sizes) → Bounded additive g → Bounded additive (byte t g)
 byte_bounded t limited g b =
-    choice (Bounded Additive) g.window t
+    choice (Bounded additive) g.window t
     (λ below. (b.0, b.1, omega arith, omega arith, omega arith))
-    (λ above. fill_bounded Additive g b)
+    (λ above. fill_bounded additive additive_never_zero g b)
 
-pub credited_bounded : (s : Reno) (n : ℕ) → Bounded Additive (credited s n)
-credited_bounded s n = times_keeps (Bounded Additive) (byte s.threshold) (byte_bounded s.threshold s.limited) n s.growth s.bounded
+pub credited_bounded : (s : Reno) (n : ℕ) → Bounded additive (credited s n)
+credited_bounded s n = times_keeps (Bounded additive) (byte s.threshold) (byte_bounded s.threshold s.limited) n (sizes s.growth) s.growth.bounded
 
 pub halved_limited : (m f : ℕ) → halved m f ≤ 2 ^ 24
 halved_limited m f = omega arith
 
-pub lost_bounded : (s : Reno) (f : ℕ) → Bounded Additive (lost s f)
-lost_bounded s f = let b = s.bounded in fresh_bounded Additive s.growth.segment (lost s f).window b.0 b.1 (omega arith) (omega arith)
+pub lost_bounded : (s : Reno) (f : ℕ) → Bounded additive (lost s f)
+lost_bounded s f = let b = s.growth.bounded in fresh_bounded additive additive_never_zero s.growth.segment (lost s f).window b.0 b.1 (omega arith) (omega arith)
 
-pub timed_out_bounded : (s : Reno) → Bounded Additive (timed_out s)
-timed_out_bounded s = let b = s.bounded in fresh_bounded Additive s.growth.segment s.growth.segment b.0 b.1 (omega arith) (omega arith)
+pub timed_out_bounded : (s : Reno) → Bounded additive (timed_out s)
+timed_out_bounded s = let b = s.growth.bounded in fresh_bounded additive additive_never_zero s.growth.segment s.growth.segment b.0 b.1 (omega arith) (omega arith)
 
 abbrev pub reno : Control Reno
 reno = record {
   segment = λ s. s.growth.segment;
   window = λ s. s.growth.window;
-  credit = λ s n. record { growth = credited s n; threshold = s.threshold; bounded = credited_bounded s n; limited = s.limited };
-  loss = λ s f. record { growth = lost s f; threshold = halved s.growth.segment f; bounded = lost_bounded s f; limited = halved_limited s.growth.segment f };
-  timeout = λ s f. record { growth = timed_out s; threshold = halved s.growth.segment f; bounded = timed_out_bounded s; limited = halved_limited s.growth.segment f };
+  credit = λ s n. record { growth = resized s.growth (credited s n) (credited_bounded s n); threshold = s.threshold; limited = s.limited };
+  loss = λ s f. record { growth = resized s.growth (lost s f) (lost_bounded s f); threshold = halved s.growth.segment f; limited = halved_limited s.growth.segment f };
+  timeout = λ s f. record { growth = resized s.growth (timed_out s) (timed_out_bounded s); threshold = halved s.growth.segment f; limited = halved_limited s.growth.segment f };
 }
 
 -- a new Reno, with no threshold below the widest window
 abbrev pub RenoStarts : ℕ → Result Reno ControllerFault → Type 0
-RenoStarts m = Makes (λ s. (s.growth ≡ fresh m (first_window m)) × (s.threshold ≡ 2 ^ 24)) m
+RenoStarts m = Makes (λ s. (sizes s.growth ≡ fresh m (first_window m)) × (s.threshold ≡ 2 ^ 24)) m

@@ -1,105 +1,103 @@
-ghost use Rattle.std.specs.Prelude.{◌≡◌, ◌^◌, ◌≤◌};
-ghost use Rattle.congestion.specs.Repeat.{times};
-ghost use Rattle.congestion.specs.AtOnce.{missing, widens, carried};
-ghost use Rattle.congestion.specs.Growths.{limit, fresh, wider, fill, Bounded};
+ghost use Rattle.std.specs.Prelude.{◌≡◌, ℕ, ◌^◌, ◌<◌, ◌≤◌};
+ghost use Rattle.congestion.specs.Growths.{Bounded, NeverZero, HasRoom};
 
 use crate::controller::WIDEST;
+use std::marker::PhantomData;
 
-/// How many credited bytes widen the window by a segment.
-#[derive(Clone, Copy)]
-pub(crate) enum Increase {
-    /// A window of them.
-    Additive,
-    /// As many windows of them as the window has segments, a part of one counted whole.
-    Inverse,
+/// How many credited bytes widen a window by a segment.
+pub(crate) trait Increase {
+    ghost limit: { ℕ → ℕ → ℕ };
+
+    /// As many, for these sizes in bytes.
+    fn limit(segment: u32, window: u32) -> u64
+        requires { 0 < segment }
+        ensures { result ≡ limit segment window };
+
+    ghost never_zero: { NeverZero limit };
+
+    ghost has_room: { HasRoom limit };
 }
 
 /// A window that grows by a segment each time that the carry reaches its limit.
-#[derive(Clone, Copy)]
-pub(crate) struct Growth {
+#[derive(Drop)]
+pub(crate) struct Growth<I: Increase> {
     pub(crate) segment: u32,
     pub(crate) window: u32,
     /// The credited bytes since the window last grew by a segment.
     pub(crate) carry: u64,
+    increase: PhantomData<I>,
+    ghost bounded: { Bounded I.limit (record { segment = segment; window = window; carry = carry }) },
 }
 
-impl Growth {
+impl<I: Increase> Growth<I> {
+    ghost use Rattle.congestion.specs.Repeat.{times};
+    ghost use Rattle.congestion.specs.AtOnce.{missing, widens, carried};
+    ghost use Rattle.congestion.specs.Growths.{fresh, wider, fill};
+    ghost use Rattle.congestion.specs.Views.{sizes};
+
     /// This window, and nothing in the carry.
-    pub(crate) fn new(increase: Increase, segment: u32, window: u32) -> Growth
+    pub(crate) fn new(segment: u32, window: u32) -> Growth<I>
         requires small { 64 ≤ segment }
         requires large { segment ≤ 9000 }
         requires least { segment ≤ window }
         requires most { window ≤ 2 ^ 24 }
-        ensures fresh { result ≡ fresh segment window }
-        ensures bounded { Bounded increase result }
+        ensures { sizes result ≡ fresh segment window }
     {
         Growth {
             segment,
             window,
             carry: 0,
+            increase: PhantomData,
         }
     }
 
     /// The carry at which the window grows.
-    fn carry_limit(self, increase: Increase) -> u64
-        requires { Bounded increase self }
-        ensures { result ≡ limit increase self.segment self.window }
+    fn carry_limit(&self) -> u64
+        ensures { result ≡ I.limit self.now.segment self.now.window }
     {
-        let window = self.window as u64;
-        match increase {
-            Increase::Additive => window,
-            Increase::Inverse => window * self.window.div_ceil(self.segment) as u64,
-        }
+        I::limit(self.segment, self.window)
     }
 
     /// The bytes that the carry is short of its limit.
-    fn missing(self, increase: Increase) -> u64
-        requires { Bounded increase self }
-        ensures { result ≡ missing increase self }
+    fn missing(&self) -> u64
+        ensures { result ≡ missing I.limit (sizes self.now) }
     {
-        self.carry_limit(increase) - self.carry
+        self.carry_limit() - self.carry
     }
 
     /// Whether so many bytes widen the window.
-    fn widens(self, increase: Increase, bytes: u64) -> bool
-        requires { Bounded increase self }
-        ensures { result ≡ widens increase self bytes }
+    fn widens(&self, bytes: u64) -> bool
+        ensures { result ≡ widens I.limit (sizes self.now) bytes }
     {
-        self.window < WIDEST && bytes >= self.missing(increase)
+        self.window < WIDEST && bytes >= self.missing()
     }
 
     /// A segment wider, and the carry at 0.
-    fn wider(self, increase: Increase) -> Growth
-        requires { Bounded increase self }
-        ensures wider { result ≡ wider self }
-        ensures bounded { Bounded increase result }
+    fn widen(&mut self)
+        ensures { sizes self.new ≡ wider (sizes self.old) }
     {
-        let window = (self.window + self.segment).min(WIDEST);
-        Growth::new(increase, self.segment, window)
+        self.window = (self.window + self.segment).min(WIDEST);
+        self.carry = 0;
     }
 
-    /// The carry after bytes that do not widen the window: at the widest window it goes round.
-    fn carried(self, increase: Increase, bytes: u64) -> Growth
-        requires { Bounded increase self }
-        ensures { result ≡ carried increase self bytes }
+    /// Bytes that do not widen the window go to the carry: at the widest window it goes round.
+    fn carry_over(&mut self, bytes: u64)
+        ensures { sizes self.new ≡ carried I.limit (sizes self.old) bytes }
     {
-        let limit = self.carry_limit(increase);
-        let carry = (self.carry + bytes % limit) % limit;
-        Growth { carry, ..self }
+        let limit = self.carry_limit();
+        self.carry = (self.carry + bytes % limit) % limit;
     }
 
-    /// What `bytes` credited bytes lead to. Each turn of the loop is a return of the carry to 0, and there is none at the widest window.
-    pub(crate) fn filled(self, increase: Increase, bytes: u64) -> Growth
-        requires { Bounded increase self }
-        ensures filled { result ≡ times bytes (fill increase) self }
-        ensures bounded { Bounded increase result }
+    /// `bytes` credited bytes. Each turn of the loop is a return of the carry to 0, and there is none at the widest window.
+    #[tactic(auto, using(crate::specs::Fillings::turns, crate::specs::Fillings::ends))]
+    pub(crate) fn fill(&mut self, bytes: u64)
+        ensures { sizes self.new ≡ times bytes (fill I.limit) (sizes self.old) }
     {
-        let mut growth = self;
         let mut left = bytes;
-        while growth.widens(increase, left) {
-            left -= growth.missing(increase);
-            growth = growth.wider(increase);
+        while self.widens(left) {
+            left -= self.missing();
+            self.widen();
         }
-        growth.carried(increase, left)
+        self.carry_over(left);
     }
 }

@@ -7,6 +7,7 @@ pub mod controller;
 pub mod faults;
 mod growth;
 pub mod iiad;
+mod increases;
 pub mod narrowed;
 pub mod reno;
 pub mod share;

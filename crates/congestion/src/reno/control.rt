@@ -1,17 +1,18 @@
 ghost use Rattle.std.specs.Prelude.{◌≡◌, ◌≤◌};
 ghost use Rattle.std.proofs.Math.Path.{refl};
-ghost use Rattle.congestion.specs.AtOnce.{climbing, at_once};
-ghost use Rattle.congestion.specs.RenoRules.{reno, halved, lost, timed_out, RenoStarts, byte};
+ghost use Rattle.congestion.specs.AtOnce.{climbing};
+ghost use Rattle.congestion.specs.RenoRules.{reno, halved, RenoStarts, byte};
 ghost use Rattle.congestion.specs.Repeat.{times};
 ghost use Rattle.congestion.specs.Repeats.{times_sum};
 ghost use Rattle.congestion.specs.Fillings.{never_narrows, same_segment};
 ghost use Rattle.congestion.specs.Climbs.{byte_widens, byte_segment};
+ghost use Rattle.congestion.specs.Views.{sizes};
 ghost use Rattle.congestion.specs.Same.{reno_same};
 
 use super::Reno;
 use crate::controller::{Controller, WIDEST};
 use crate::faults::ControllerFault;
-use crate::growth::{Growth, Increase};
+use crate::growth::Growth;
 use crate::starts::first_window;
 
 impl Reno {
@@ -20,7 +21,7 @@ impl Reno {
         ensures { RenoStarts segment result }
     {
         let window = first_window(segment)?;
-        let growth = Growth::new(Increase::Additive, segment, window);
+        let growth = Growth::new(segment, window);
         Ok(Reno {
             growth,
             threshold: WIDEST,
@@ -33,44 +34,6 @@ impl Reno {
     {
         let below = self.threshold.saturating_sub(self.window());
         bytes.min(below as u64) as u32
-    }
-
-    /// What `bytes` credited bytes lead to.
-    fn credited(&self, bytes: u64) -> Reno
-        ensures growth { result.growth ≡ at_once self.now bytes }
-        ensures threshold { result.threshold ≡ self.now.threshold }
-    {
-        let climbed = self.climbing(bytes);
-        let mut growth = self.growth;
-        growth.window += climbed;
-        let filled = growth.filled(Increase::Additive, bytes - climbed as u64);
-        Reno {
-            growth: filled,
-            threshold: self.threshold,
-        }
-    }
-
-    /// What a loss with `flight` bytes in flight leads to.
-    fn lost(&self, flight: u64) -> Reno
-        ensures growth { result.growth ≡ lost self.now flight }
-        ensures threshold { result.threshold ≡ halved self.now.growth.segment flight }
-    {
-        let segment = self.segment();
-        let threshold = halved(segment, flight);
-        let window = self.window().min(threshold);
-        let growth = Growth::new(Increase::Additive, segment, window);
-        Reno { growth, threshold }
-    }
-
-    /// What a timeout with `flight` bytes in flight leads to.
-    fn timed_out(&self, flight: u64) -> Reno
-        ensures growth { result.growth ≡ timed_out self.now }
-        ensures threshold { result.threshold ≡ halved self.now.growth.segment flight }
-    {
-        let segment = self.segment();
-        let threshold = halved(segment, flight);
-        let growth = Growth::new(Increase::Additive, segment, segment);
-        Reno { growth, threshold }
     }
 }
 
@@ -88,15 +51,15 @@ impl Controller for Reno {
     ghost lawful = { unfold times in
         record {
           nothing = λ s. reno_same _ _ refl refl;
-          together = λ s a b. reno_same _ _ refl (times_sum (byte s.threshold) a b s.growth);
-          widens = λ s n. never_narrows (byte s.threshold) (byte_widens s.threshold s.limited) n s.growth s.bounded.3;
-          small = λ s. s.bounded.0;
-          large = λ s. s.bounded.1;
-          credit_keeps = λ s n. same_segment (byte s.threshold) (byte_segment s.threshold) n s.growth;
+          together = λ s a b. reno_same _ _ refl (times_sum (byte s.threshold) a b (sizes s.growth));
+          widens = λ s n. never_narrows (byte s.threshold) (byte_widens s.threshold s.limited) n (sizes s.growth) s.growth.bounded.3;
+          small = λ s. s.growth.bounded.0;
+          large = λ s. s.growth.bounded.1;
+          credit_keeps = λ s n. same_segment (byte s.threshold) (byte_segment s.threshold) n (sizes s.growth);
           loss_keeps = λ s f. refl;
           timeout_keeps = λ s f. refl;
-          least = λ s. s.bounded.2;
-          most = λ s. s.bounded.3;
+          least = λ s. s.growth.bounded.2;
+          most = λ s. s.growth.bounded.3;
         } };
 
     fn window(&self) -> u32 {
@@ -107,15 +70,25 @@ impl Controller for Reno {
         self.growth.segment
     }
 
+    #[tactic(auto, using(crate::specs::Same::reno_same, crate::specs::Climbs::climbs))]
     fn credit(&mut self, bytes: u64) {
-        *self = self.credited(bytes);
+        let climbed = self.climbing(bytes);
+        let growth = &mut self.growth;
+        growth.window += climbed;
+        growth.fill(bytes - climbed as u64);
     }
 
     fn loss(&mut self, flight: u64) {
-        *self = self.lost(flight);
+        let segment = self.segment();
+        let threshold = halved(segment, flight);
+        let window = self.window().min(threshold);
+        self.growth = Growth::new(segment, window);
+        self.threshold = threshold;
     }
 
     fn timeout(&mut self, flight: u64) {
-        *self = self.timed_out(flight);
+        let segment = self.segment();
+        self.growth = Growth::new(segment, segment);
+        self.threshold = halved(segment, flight);
     }
 }
