@@ -1,8 +1,6 @@
 -- Many credited bytes at once, as the code takes them; the rule is a byte at a time. Assumes nothing.
 use Rattle.std.specs.Prelude.{ℕ, ◌+◌, ◌-◌, ◌%◌, ◌^◌, min, Bool, ◌&&◌, nat_le, nat_lt}
-use Rattle.congestion.specs.Growths.{Sizes, additive, at, fill}
-use Rattle.congestion.specs.Repeat.{times}
-use Rattle.congestion.specs.Views.{sizes}
+use Rattle.congestion.specs.Growths.{Sizes, at}
 use Rattle.congestion.specs.declared.reno.Reno.{Reno}
 
 module _ (limit : ℕ → ℕ → ℕ) where
@@ -21,7 +19,3 @@ module _ (limit : ℕ → ℕ → ℕ) where
 -- how many of n bytes climb to the threshold
 abbrev pub climbing : Reno → ℕ → ℕ
 climbing s n = min n (s.threshold - s.growth.window)
-
--- n bytes at once: those that climb, and then the others
-abbrev pub at_once : Reno → ℕ → Sizes
-at_once s n = times (n - climbing s n) (fill additive) (at (sizes s.growth) (s.growth.window + climbing s n) s.growth.carry)

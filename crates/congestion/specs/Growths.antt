@@ -1,5 +1,6 @@
 -- A window that grows by a segment each time that the carry, which counts credited bytes, reaches its limit. Assumes nothing.
-use Rattle.std.specs.Prelude.{ℕ, ◌+◌, ◌*◌, ◌/◌, ◌%◌, ◌^◌, ◌<◌, ◌≤◌, min, cond, nat_lt}
+use Rattle.std.specs.Prelude.{ℕ, ◌+◌, ◌*◌, ◌^◌, ◌<◌, ◌≤◌, min, cond, nat_lt}
+use Rattle.std.specs.Int.{div_ceil}
 
 -- in bytes: a segment, the window, and the carry
 pub record Sizes : Type 0 where
@@ -7,17 +8,13 @@ pub record Sizes : Type 0 where
   pub window : ℕ
   pub carry : ℕ
 
--- a / b, rounded up
-abbrev pub rounded_up : ℕ → ℕ → ℕ
-rounded_up a b = a / b + min 1 (a % b)
-
 -- the carry at which a window of w bytes grows, for segments of m bytes: a window of them,
 abbrev pub additive : ℕ → ℕ → ℕ
 additive m w = w
 
 -- or as many windows as it has segments
 abbrev pub inverse : ℕ → ℕ → ℕ
-inverse m w = w * rounded_up w m
+inverse m w = w * div_ceil w m
 
 -- g with another window and carry
 abbrev pub at : Sizes → ℕ → ℕ → Sizes

@@ -2,7 +2,8 @@
 use Rattle.std.specs.Prelude.{◌≡◌, ℕ, ◌-◌, max, Result}
 use Rattle.std.proofs.Common.{arith}
 use Rattle.congestion.specs.Control.{Control}
-use Rattle.congestion.specs.Repeat.{times, times_keeps}
+use Rattle.std.specs.Fn.{iterate}
+use Rattle.congestion.specs.Iterates.{iterate_keeps}
 use Rattle.congestion.specs.Starts.{first_window, Makes}
 use Rattle.congestion.specs.Growths.{Sizes, inverse, fresh, fill, Bounded}
 use Rattle.congestion.specs.Increases.{inverse_never_zero}
@@ -13,7 +14,7 @@ use Rattle.congestion.specs.declared.iiad.Iiad.{Iiad}
 
 -- after n credited bytes
 abbrev pub credited : Iiad → ℕ → Sizes
-credited s n = times n (fill inverse) (sizes s.growth)
+credited s n = iterate (fill inverse) n (sizes s.growth)
 
 -- after a loss: a segment narrower, but at least one segment
 abbrev pub lost : Iiad → Sizes
@@ -25,7 +26,7 @@ timed_out s = fresh s.growth.segment s.growth.segment
 
 -- each of these is within the bounds, which an Iiad carries with it
 pub credited_bounded : (s : Iiad) (n : ℕ) → Bounded inverse (credited s n)
-credited_bounded s n = times_keeps (Bounded inverse) (fill inverse) (fill_bounded inverse inverse_never_zero) n (sizes s.growth) s.growth.bounded
+credited_bounded s n = iterate_keeps (Bounded inverse) (fill inverse) (fill_bounded inverse inverse_never_zero) n (sizes s.growth) s.growth.bounded
 
 pub lost_bounded : (s : Iiad) → Bounded inverse (lost s)
 lost_bounded s = let b = s.growth.bounded in fresh_bounded inverse inverse_never_zero s.growth.segment (lost s).window b.0 b.1 (omega arith) (omega arith)

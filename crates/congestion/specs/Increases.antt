@@ -1,7 +1,8 @@
 -- Of the limits of the carry none is 0, and twice each fits 64 bits. Assumes nothing.
 use Rattle.std.specs.Prelude.{ℕ, ◌+◌, ◌/◌, ◌^◌, ◌<◌, ◌≤◌}
+use Rattle.std.specs.Int.{div_ceil}
 use Rattle.std.proofs.Common.{div-le_self, le-div_iff_mul-le, mul-le-mul, mul-pos, arith}
-use Rattle.congestion.specs.Growths.{rounded_up, additive, inverse, NeverZero, HasRoom}
+use Rattle.congestion.specs.Growths.{additive, inverse, NeverZero, HasRoom}
 
 pub additive_never_zero : NeverZero additive
 additive_never_zero m w small h = omega arith
@@ -17,5 +18,5 @@ inverse_never_zero m w small h =
 
 pub inverse_has_room : HasRoom inverse
 inverse_has_room m w h =
-    let few : rounded_up w m ≤ 2 ^ 24 + 1 = omega (arith, div-le_self w m) in
+    let few : div_ceil w m ≤ 2 ^ 24 + 1 = omega (arith, div-le_self w m) in
     omega (arith, mul-le-mul h few)

@@ -1,5 +1,4 @@
-pub mod Choice
-pub mod Repeat
+pub mod Iterates
 pub mod Control
 pub mod Faults
 pub mod Starts
@@ -12,7 +11,6 @@ pub mod IiadRules
 pub mod Layers
 pub mod Shares
 pub mod AtOnce
-pub mod Repeats
 pub mod Fillings
 pub mod Same
 pub mod Climbs

@@ -1,9 +1,10 @@
 -- Reno by bytes. Assumes nothing.
 use Rattle.std.specs.Prelude.{◌≡◌, ℕ, ◌+◌, ◌*◌, ◌/◌, ◌^◌, ◌≤◌, min, max, cond, Result, nat_lt}
 use Rattle.std.proofs.Common.{arith}
-use Rattle.congestion.specs.Choice.{choice}
+use Rattle.std.proofs.lemmas.Grind.{common_steps}
 use Rattle.congestion.specs.Control.{Control}
-use Rattle.congestion.specs.Repeat.{times, times_keeps}
+use Rattle.std.specs.Fn.{iterate}
+use Rattle.congestion.specs.Iterates.{iterate_keeps}
 use Rattle.congestion.specs.Starts.{first_window, Makes}
 use Rattle.congestion.specs.Growths.{Sizes, additive, at, fresh, fill, Bounded}
 use Rattle.congestion.specs.Increases.{additive_never_zero}
@@ -22,7 +23,7 @@ byte t g = cond (nat_lt g.window t) (climb g) (fill additive g)
 
 -- after n credited bytes
 abbrev pub credited : Reno → ℕ → Sizes
-credited s n = times n (byte s.threshold) (sizes s.growth)
+credited s n = iterate (byte s.threshold) n (sizes s.growth)
 
 -- the threshold after a loss or a timeout: half of the f bytes in flight, but at least two segments of m bytes
 abbrev pub halved : ℕ → ℕ → ℕ
@@ -38,13 +39,10 @@ timed_out s = fresh s.growth.segment s.growth.segment
 
 -- each of these is within the bounds, which a Reno carries with it
 pub byte_bounded : (t : ℕ) → t ≤ 2 ^ 24 → (g : Sizes) → Bounded additive g → Bounded additive (byte t g)
-byte_bounded t limited g b =
-    choice (Bounded additive) g.window t
-    (λ below. (b.0, b.1, omega arith, omega arith, omega arith))
-    (λ above. fill_bounded additive additive_never_zero g b)
+byte_bounded t limited g b = grind (arith, common_steps, additive_never_zero)
 
 pub credited_bounded : (s : Reno) (n : ℕ) → Bounded additive (credited s n)
-credited_bounded s n = times_keeps (Bounded additive) (byte s.threshold) (byte_bounded s.threshold s.limited) n (sizes s.growth) s.growth.bounded
+credited_bounded s n = iterate_keeps (Bounded additive) (byte s.threshold) (byte_bounded s.threshold s.limited) n (sizes s.growth) s.growth.bounded
 
 pub halved_limited : (m f : ℕ) → halved m f ≤ 2 ^ 24
 halved_limited m f = omega arith

@@ -3,6 +3,7 @@ use mathlib.Core.HLevel.{is_prop→PathP}
 use Rattle.std.specs.Prelude.{◌≡◌, ℕ, ◌^◌, ◌≤◌}
 use Prim.{IsProp}
 use Rattle.std.proofs.Math.Bridge.{le_prop}
+use Rattle.std.proofs.Props.{props}
 use Rattle.congestion.specs.Growths.{Sizes, Bounded}
 use Rattle.congestion.specs.Views.{sizes, resized}
 use Rattle.congestion.specs.declared.growth.Growth.{Growth}
@@ -10,7 +11,7 @@ use Rattle.congestion.specs.declared.iiad.Iiad.{Iiad}
 use Rattle.congestion.specs.declared.reno.Reno.{Reno}
 
 bounded_once : (limit : ℕ → ℕ → ℕ) (g : Sizes) → IsProp (Bounded limit g)
-bounded_once limit g a b = λ j. (le_prop a.0 b.0 j, le_prop a.1 b.1 j, le_prop a.2 b.2 j, le_prop a.3 b.3 j, le_prop a.4 b.4 j)
+bounded_once limit g = Prim.hlevel props
 
 pub growth_same : {I : Type 0} {i : _} (a b : Growth I i) → sizes a ≡ sizes b → a ≡ b
 growth_same {I} {i} a b e = λ j. resized a (e j) (is_prop→PathP (λ k. Bounded i.limit (e k)) (λ k. bounded_once i.limit (e k)) a.bounded b.bounded j)

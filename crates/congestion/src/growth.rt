@@ -8,7 +8,7 @@ use std::marker::PhantomData;
 pub(crate) trait Increase {
     ghost limit: { ℕ → ℕ → ℕ };
 
-    /// As many, for these sizes in bytes.
+    /// As many, at a window of so many bytes and of segments of so many.
     fn limit(segment: u32, window: u32) -> u64
         requires { 0 < segment }
         ensures { result ≡ limit segment window };
@@ -30,7 +30,7 @@ pub(crate) struct Growth<I: Increase> {
 }
 
 impl<I: Increase> Growth<I> {
-    ghost use Rattle.congestion.specs.Repeat.{times};
+    ghost use Rattle.std.specs.Fn.{iterate};
     ghost use Rattle.congestion.specs.AtOnce.{missing, widens, carried};
     ghost use Rattle.congestion.specs.Growths.{fresh, wider, fill};
     ghost use Rattle.congestion.specs.Views.{sizes};
@@ -51,18 +51,11 @@ impl<I: Increase> Growth<I> {
         }
     }
 
-    /// The carry at which the window grows.
-    fn carry_limit(&self) -> u64
-        ensures { result ≡ I.limit self.now.segment self.now.window }
-    {
-        I::limit(self.segment, self.window)
-    }
-
     /// The bytes that the carry is short of its limit.
     fn missing(&self) -> u64
         ensures { result ≡ missing I.limit (sizes self.now) }
     {
-        self.carry_limit() - self.carry
+        I::limit(self.segment, self.window) - self.carry
     }
 
     /// Whether so many bytes widen the window.
@@ -84,14 +77,14 @@ impl<I: Increase> Growth<I> {
     fn carry_over(&mut self, bytes: u64)
         ensures { sizes self.new ≡ carried I.limit (sizes self.old) bytes }
     {
-        let limit = self.carry_limit();
+        let limit = I::limit(self.segment, self.window);
         self.carry = (self.carry + bytes % limit) % limit;
     }
 
     /// `bytes` credited bytes. Each turn of the loop is a return of the carry to 0, and there is none at the widest window.
     #[tactic(auto, using(crate::specs::Fillings::turns, crate::specs::Fillings::ends))]
     pub(crate) fn fill(&mut self, bytes: u64)
-        ensures { sizes self.new ≡ times bytes (fill I.limit) (sizes self.old) }
+        ensures { sizes self.new ≡ iterate (fill I.limit) bytes (sizes self.old) }
     {
         let mut left = bytes;
         while self.widens(left) {

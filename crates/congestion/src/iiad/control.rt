@@ -1,8 +1,7 @@
 ghost use Rattle.std.specs.Prelude.{◌≡◌, refl};
 ghost use Rattle.congestion.specs.IiadRules.{iiad, IiadStarts};
-ghost use Rattle.congestion.specs.Repeat.{times};
 ghost use Rattle.congestion.specs.Growths.{inverse, fill};
-ghost use Rattle.congestion.specs.Repeats.{times_sum};
+ghost use Rattle.congestion.specs.Iterates.{iterate_sum};
 ghost use Rattle.congestion.specs.Fillings.{fill_widens, fill_segment, never_narrows, same_segment};
 ghost use Rattle.congestion.specs.Views.{sizes};
 ghost use Rattle.congestion.specs.Same.{iiad_same};
@@ -28,10 +27,9 @@ impl Iiad {
 impl Controller for Iiad {
     ghost control = { iiad };
 
-    ghost lawful = { unfold times in
-        record {
+    ghost lawful = { record {
           nothing = λ s. iiad_same _ _ refl;
-          together = λ s a b. iiad_same _ _ (times_sum (fill inverse) a b (sizes s.growth));
+          together = λ s a b. iiad_same _ _ (iterate_sum (fill inverse) a b (sizes s.growth));
           widens = λ s n. never_narrows (fill inverse) (fill_widens inverse) n (sizes s.growth) s.growth.bounded.3;
           small = λ s. s.growth.bounded.0;
           large = λ s. s.growth.bounded.1;

@@ -2,8 +2,7 @@ ghost use Rattle.std.specs.Prelude.{◌≡◌, ◌≤◌};
 ghost use Rattle.std.proofs.Math.Path.{refl};
 ghost use Rattle.congestion.specs.AtOnce.{climbing};
 ghost use Rattle.congestion.specs.RenoRules.{reno, halved, RenoStarts, byte};
-ghost use Rattle.congestion.specs.Repeat.{times};
-ghost use Rattle.congestion.specs.Repeats.{times_sum};
+ghost use Rattle.congestion.specs.Iterates.{iterate_sum};
 ghost use Rattle.congestion.specs.Fillings.{never_narrows, same_segment};
 ghost use Rattle.congestion.specs.Climbs.{byte_widens, byte_segment};
 ghost use Rattle.congestion.specs.Views.{sizes};
@@ -48,10 +47,9 @@ fn halved(segment: u32, flight: u64) -> u32
 impl Controller for Reno {
     ghost control = { reno };
 
-    ghost lawful = { unfold times in
-        record {
+    ghost lawful = { record {
           nothing = λ s. reno_same _ _ refl refl;
-          together = λ s a b. reno_same _ _ refl (times_sum (byte s.threshold) a b (sizes s.growth));
+          together = λ s a b. reno_same _ _ refl (iterate_sum (byte s.threshold) a b (sizes s.growth));
           widens = λ s n. never_narrows (byte s.threshold) (byte_widens s.threshold s.limited) n (sizes s.growth) s.growth.bounded.3;
           small = λ s. s.growth.bounded.0;
           large = λ s. s.growth.bounded.1;

@@ -1,6 +1,6 @@
 -- The loop over the returns of the carry: what it keeps, and why it ends. Assumes nothing.
 use Rattle.std.proofs.Common.{◌≡◌, ◌-◌, ◌^◌}
-use Rattle.congestion.specs.Repeat.{times}
+use Rattle.std.specs.Fn.{iterate}
 use Rattle.congestion.specs.Growths.{fill}
 use Rattle.congestion.specs.Views.{sizes}
 use Rattle.congestion.proofs.growth.Growth.fill.Given as goal
@@ -9,7 +9,7 @@ use Rattle.congestion.proofs.growth.Growth.fill.Given as goal
 abbrev pub invariant-loop-self : goal.invariant-loop-self
 invariant-loop-self g l =
     let one = fill g.I.Increase.limit in
-    times l.left one (sizes l.self) ≡ times l.initial.left one (sizes l.initial.self)
+    iterate one l.left (sizes l.self) ≡ iterate one l.initial.left (sizes l.initial.self)
 
 abbrev pub decreases-loop-self : goal.decreases-loop-self
 decreases-loop-self g l = 2 ^ 24 - l.self.window
