@@ -1,6 +1,8 @@
 -- A window that grows by a segment each time that the carry, which counts credited bytes, reaches its limit. Assumes nothing.
 use Rattle.std.specs.Prelude.{ℕ, ◌+◌, ◌*◌, ◌^◌, ◌<◌, ◌≤◌, min, cond, nat_lt}
 use Rattle.std.specs.Int.{div_ceil}
+use Rattle.std.proofs.Common.{arith}
+use Rattle.std.proofs.lemmas.Grind.{common_steps}
 
 -- in bytes: a segment, the window, and the carry
 pub record Sizes : Type 0 where
@@ -47,3 +49,7 @@ module _ (limit : ℕ → ℕ → ℕ) where
   -- what a controller of this kind keeps: a segment has 64 to 9000 bytes, the window a segment to 2^24, and the carry is below its limit
   abbrev pub Bounded : Sizes → Type 0
   Bounded g = (64 ≤ g.segment) × (g.segment ≤ 9000) × (g.segment ≤ g.window) × (g.window ≤ 2 ^ 24) × (g.carry < limit g.segment g.window)
+
+-- a credited byte keeps it
+pub fill_bounded : (limit : ℕ → ℕ → ℕ) → NeverZero limit → (g : Sizes) → Bounded limit g → Bounded limit (fill limit g)
+fill_bounded limit never_zero g b = grind (arith, common_steps, never_zero)

@@ -1,13 +1,13 @@
 -- IIAD: inverse increase, additive decrease. Assumes nothing.
 use Rattle.std.specs.Prelude.{◌≡◌, ℕ, ◌-◌, max, Result}
 use Rattle.std.proofs.Common.{arith}
+use Rattle.std.proofs.lemmas.Grind.{common_steps}
 use Rattle.congestion.specs.Control.{Control}
 use Rattle.std.specs.Fn.{iterate}
 use Rattle.congestion.specs.Iterates.{iterate_keeps}
 use Rattle.congestion.specs.Starts.{first_window, Makes}
-use Rattle.congestion.specs.Growths.{Sizes, inverse, fresh, fill, Bounded}
+use Rattle.congestion.specs.Growths.{Sizes, inverse, fresh, fill, Bounded, fill_bounded}
 use Rattle.congestion.specs.Increases.{inverse_never_zero}
-use Rattle.congestion.specs.Bounds.{fresh_bounded, fill_bounded}
 use Rattle.congestion.specs.Views.{sizes, resized}
 use Rattle.congestion.specs.declared.faults.ControllerFault.{ControllerFault}
 use Rattle.congestion.specs.declared.iiad.Iiad.{Iiad}
@@ -29,10 +29,10 @@ pub credited_bounded : (s : Iiad) (n : ℕ) → Bounded inverse (credited s n)
 credited_bounded s n = iterate_keeps (Bounded inverse) (fill inverse) (fill_bounded inverse inverse_never_zero) n (sizes s.growth) s.growth.bounded
 
 pub lost_bounded : (s : Iiad) → Bounded inverse (lost s)
-lost_bounded s = let b = s.growth.bounded in fresh_bounded inverse inverse_never_zero s.growth.segment (lost s).window b.0 b.1 (omega arith) (omega arith)
+lost_bounded s = let b = s.growth.bounded in grind (arith, common_steps, inverse_never_zero)
 
 pub timed_out_bounded : (s : Iiad) → Bounded inverse (timed_out s)
-timed_out_bounded s = let b = s.growth.bounded in fresh_bounded inverse inverse_never_zero s.growth.segment s.growth.segment b.0 b.1 (omega arith) (omega arith)
+timed_out_bounded s = let b = s.growth.bounded in grind (arith, common_steps, inverse_never_zero)
 
 abbrev pub iiad : Control Iiad
 iiad = record {

@@ -1,14 +1,8 @@
--- Of the limits of the carry none is 0, and twice each fits 64 bits. Assumes nothing.
+-- The limit of the inverse increase is not 0, and twice it fits 64 bits. Assumes nothing.
 use Rattle.std.specs.Prelude.{ℕ, ◌+◌, ◌/◌, ◌^◌, ◌<◌, ◌≤◌}
 use Rattle.std.specs.Int.{div_ceil}
 use Rattle.std.proofs.Common.{div-le_self, le-div_iff_mul-le, mul-le-mul, mul-pos, arith}
-use Rattle.congestion.specs.Growths.{additive, inverse, NeverZero, HasRoom}
-
-pub additive_never_zero : NeverZero additive
-additive_never_zero m w small h = omega arith
-
-pub additive_has_room : HasRoom additive
-additive_has_room m w h = omega arith
+use Rattle.congestion.specs.Growths.{inverse, NeverZero, HasRoom}
 
 pub inverse_never_zero : NeverZero inverse
 inverse_never_zero m w small h =

@@ -4,7 +4,6 @@ pub mod Faults
 pub mod Starts
 pub mod Growths
 pub mod Increases
-pub mod Bounds
 pub mod Views
 pub mod RenoRules
 pub mod IiadRules

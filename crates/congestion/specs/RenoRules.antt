@@ -7,8 +7,6 @@ use Rattle.std.specs.Fn.{iterate}
 use Rattle.congestion.specs.Iterates.{iterate_keeps}
 use Rattle.congestion.specs.Starts.{first_window, Makes}
 use Rattle.congestion.specs.Growths.{Sizes, additive, at, fresh, fill, Bounded}
-use Rattle.congestion.specs.Increases.{additive_never_zero}
-use Rattle.congestion.specs.Bounds.{fresh_bounded, fill_bounded}
 use Rattle.congestion.specs.Views.{sizes, resized}
 use Rattle.congestion.specs.declared.faults.ControllerFault.{ControllerFault}
 use Rattle.congestion.specs.declared.reno.Reno.{Reno}
@@ -39,7 +37,7 @@ timed_out s = fresh s.growth.segment s.growth.segment
 
 -- each of these is within the bounds, which a Reno carries with it
 pub byte_bounded : (t : ℕ) → t ≤ 2 ^ 24 → (g : Sizes) → Bounded additive g → Bounded additive (byte t g)
-byte_bounded t limited g b = grind (arith, common_steps, additive_never_zero)
+byte_bounded t limited g b = grind (arith, common_steps)
 
 pub credited_bounded : (s : Reno) (n : ℕ) → Bounded additive (credited s n)
 credited_bounded s n = iterate_keeps (Bounded additive) (byte s.threshold) (byte_bounded s.threshold s.limited) n (sizes s.growth) s.growth.bounded
@@ -48,10 +46,10 @@ pub halved_limited : (m f : ℕ) → halved m f ≤ 2 ^ 24
 halved_limited m f = omega arith
 
 pub lost_bounded : (s : Reno) (f : ℕ) → Bounded additive (lost s f)
-lost_bounded s f = let b = s.growth.bounded in fresh_bounded additive additive_never_zero s.growth.segment (lost s f).window b.0 b.1 (omega arith) (omega arith)
+lost_bounded s f = let b = s.growth.bounded in grind (arith, common_steps)
 
 pub timed_out_bounded : (s : Reno) → Bounded additive (timed_out s)
-timed_out_bounded s = let b = s.growth.bounded in fresh_bounded additive additive_never_zero s.growth.segment s.growth.segment b.0 b.1 (omega arith) (omega arith)
+timed_out_bounded s = let b = s.growth.bounded in grind (arith, common_steps)
 
 abbrev pub reno : Control Reno
 reno = record {

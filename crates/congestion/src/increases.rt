@@ -1,6 +1,7 @@
 ghost use Rattle.std.specs.Prelude.{ℕ, ◌≤◌};
 ghost use Rattle.congestion.specs.Growths.{additive, inverse};
-ghost use Rattle.congestion.specs.Increases.{additive_never_zero, additive_has_room, inverse_never_zero, inverse_has_room};
+ghost use Rattle.congestion.specs.Increases.{inverse_never_zero, inverse_has_room};
+ghost use Rattle.std.proofs.Common.{arith};
 
 use crate::growth::Increase;
 
@@ -15,9 +16,9 @@ impl Increase for Additive {
         window as u64
     }
 
-    ghost never_zero = { additive_never_zero };
+    ghost never_zero = { λ m w small h. omega arith };
 
-    ghost has_room = { additive_has_room };
+    ghost has_room = { λ m w h. omega arith };
 }
 
 /// As many windows of them as the window has segments, a part of one counted whole.
