@@ -1,6 +1,6 @@
 ghost use Rattle.std.specs.Prelude.{◌≡◌, ℕ, ◌≤◌};
 ghost use Rattle.congestion.specs.Layers.{narrowed};
-ghost use Rattle.std.proofs.Common.{arith};
+ghost use Rattle.std.proofs.Common.{rules};
 
 use crate::controller::Controller;
 
@@ -27,19 +27,7 @@ pub struct Narrowed<C, R> {
 impl<C: Controller, R: Narrowing> Controller for Narrowed<C, R> {
     ghost control = { narrowed C.Controller.control R.Narrowing.bound };
 
-    ghost lawful = { let laws = C.Controller.lawful in
-        record {
-          nothing = λ s i. record { below = laws.nothing s.below i; rule = s.rule };
-          together = λ s a b i. record { below = laws.together s.below a b i; rule = s.rule };
-          widens = λ s n. omega (arith, R.Narrowing.monotone s.rule _ _ (laws.widens s.below n), laws.credit_keeps s.below n);
-          small = λ s. laws.small s.below;
-          large = λ s. laws.large s.below;
-          credit_keeps = λ s n. laws.credit_keeps s.below n;
-          loss_keeps = λ s n. laws.loss_keeps s.below n;
-          timeout_keeps = λ s n. laws.timeout_keeps s.below n;
-          least = λ s. omega arith;
-          most = λ s. omega (arith, R.Narrowing.no_wider s.rule (C.Controller.control.window s.below), laws.least s.below, laws.most s.below);
-        } };
+    ghost lawful = { Prim.search rules };
 
     fn window(&self) -> u32 {
         let segment = self.segment();
