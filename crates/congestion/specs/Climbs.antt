@@ -24,7 +24,7 @@ module _ (t : ℕ) (limited : t ≤ 2 ^ 24) where
   climbs_to zero k w g most e f = grind (arith, common_steps)
   climbs_to (suc n) k w g most e f =
       let above : t ≤ g.window → suc n ≡ k → g.window ≡ w → iterate (byte t) (suc n) g ≡ iterate (fill additive) k (at g w g.carry) =
-        λ from a b. past (suc n) g most from ∙ (λ i. iterate (fill additive) (a i) (at g (b i) g.carry)) in
+      λ from a b. past (suc n) g most from ∙ (λ i. iterate (fill additive) (a i) (at g (b i) g.carry)) in
       grind (arith, common_steps, climbs_to n k w (climb g), above)
 
   pub climbs : (n : ℕ) (g : Sizes) → g.window ≤ 2 ^ 24 → iterate (byte t) n g ≡ iterate (fill additive) (n - min n (t - g.window)) (at g (g.window + min n (t - g.window)) g.carry)

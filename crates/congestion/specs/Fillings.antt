@@ -39,8 +39,8 @@ module _ (limit : ℕ → ℕ → ℕ) where
       let top = limit g.segment g.window in
       let few : (g.carry + 1) + n ≡ g.carry + suc n = omega arith in
       let full : top ≤ g.carry + 1 → (0 + n) % top ≡ (g.carry + suc n) % top = λ enough.
-        let e : top + (0 + n) ≡ g.carry + suc n = omega arith in
-        sym (add-mod_left top (0 + n)) ∙ ap (λ c. c % top) e in
+      let e : top + (0 + n) ≡ g.carry + suc n = omega arith in
+      sym (add-mod_left top (0 + n)) ∙ ap (λ c. c % top) e in
       grind (arith, common_steps, stays n (counted g), stays n (wider g), few, full)
 
   -- as code that must not overflow computes it

@@ -28,17 +28,17 @@ impl Controller for Iiad {
     ghost control = { iiad };
 
     ghost lawful = { record {
-          nothing = λ s. iiad_same _ _ refl;
-          together = λ s a b. iiad_same _ _ (iterate_sum (fill inverse) a b (sizes s.growth));
-          widens = λ s n. never_narrows (fill inverse) (fill_widens inverse) n (sizes s.growth) s.growth.bounded.3;
-          small = λ s. s.growth.bounded.0;
-          large = λ s. s.growth.bounded.1;
-          credit_keeps = λ s n. same_segment (fill inverse) (fill_segment inverse) n (sizes s.growth);
-          loss_keeps = λ s f. refl;
-          timeout_keeps = λ s f. refl;
-          least = λ s. s.growth.bounded.2;
-          most = λ s. s.growth.bounded.3;
-        } };
+      nothing = λ s. iiad_same _ _ refl;
+      together = λ s a b. iiad_same _ _ (iterate_sum (fill inverse) a b (sizes s.growth));
+      widens = λ s n. never_narrows (fill inverse) (fill_widens inverse) n (sizes s.growth) s.growth.bounded.3;
+      small = λ s. s.growth.bounded.0;
+      large = λ s. s.growth.bounded.1;
+      credit_keeps = λ s n. same_segment (fill inverse) (fill_segment inverse) n (sizes s.growth);
+      loss_keeps = λ s f. refl;
+      timeout_keeps = λ s f. refl;
+      least = λ s. s.growth.bounded.2;
+      most = λ s. s.growth.bounded.3;
+    } };
 
     fn window(&self) -> u32 {
         self.growth.window

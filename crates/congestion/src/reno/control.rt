@@ -48,17 +48,17 @@ impl Controller for Reno {
     ghost control = { reno };
 
     ghost lawful = { record {
-          nothing = λ s. reno_same _ _ refl refl;
-          together = λ s a b. reno_same _ _ refl (iterate_sum (byte s.threshold) a b (sizes s.growth));
-          widens = λ s n. never_narrows (byte s.threshold) (byte_widens s.threshold s.limited) n (sizes s.growth) s.growth.bounded.3;
-          small = λ s. s.growth.bounded.0;
-          large = λ s. s.growth.bounded.1;
-          credit_keeps = λ s n. same_segment (byte s.threshold) (byte_segment s.threshold) n (sizes s.growth);
-          loss_keeps = λ s f. refl;
-          timeout_keeps = λ s f. refl;
-          least = λ s. s.growth.bounded.2;
-          most = λ s. s.growth.bounded.3;
-        } };
+      nothing = λ s. reno_same _ _ refl refl;
+      together = λ s a b. reno_same _ _ refl (iterate_sum (byte s.threshold) a b (sizes s.growth));
+      widens = λ s n. never_narrows (byte s.threshold) (byte_widens s.threshold s.limited) n (sizes s.growth) s.growth.bounded.3;
+      small = λ s. s.growth.bounded.0;
+      large = λ s. s.growth.bounded.1;
+      credit_keeps = λ s n. same_segment (byte s.threshold) (byte_segment s.threshold) n (sizes s.growth);
+      loss_keeps = λ s f. refl;
+      timeout_keeps = λ s f. refl;
+      least = λ s. s.growth.bounded.2;
+      most = λ s. s.growth.bounded.3;
+    } };
 
     fn window(&self) -> u32 {
         self.growth.window
