@@ -11,12 +11,12 @@ pub record Sizes : Type 0 where
   pub carry : ℕ
 
 -- the carry at which a window of w bytes grows, for segments of m bytes: a window of them,
-abbrev pub additive : ℕ → ℕ → ℕ
-additive m w = w
+abbrev pub additive_limit : ℕ → ℕ → ℕ
+additive_limit m w = w
 
 -- or as many windows as it has segments
-abbrev pub inverse : ℕ → ℕ → ℕ
-inverse m w = w * div_ceil w m
+abbrev pub inverse_limit : ℕ → ℕ → ℕ
+inverse_limit m w = w * div_ceil w m
 
 -- g with another window and carry
 abbrev pub at : Sizes → ℕ → ℕ → Sizes

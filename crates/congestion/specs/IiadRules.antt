@@ -6,15 +6,14 @@ use Rattle.congestion.specs.Control.{Control}
 use Rattle.std.specs.Fn.{iterate}
 use Rattle.congestion.specs.Iterates.{iterate_keeps}
 use Rattle.congestion.specs.Starts.{first_window, Makes}
-use Rattle.congestion.specs.Growths.{Sizes, inverse, fresh, fill, Bounded, fill_bounded}
-use Rattle.congestion.specs.Increases.{inverse_never_zero}
+use Rattle.congestion.specs.Growths.{Sizes, inverse_limit, fresh, fill, Bounded, NeverZero, fill_bounded}
 use Rattle.congestion.specs.Views.{sizes, resized}
 use Rattle.congestion.specs.declared.faults.ControllerFault.{ControllerFault}
 use Rattle.congestion.specs.declared.iiad.Iiad.{Iiad}
 
 -- after n credited bytes
 abbrev pub credited : Iiad → ℕ → Sizes
-credited s n = iterate (fill inverse) n (sizes s.growth)
+credited s n = iterate (fill inverse_limit) n (sizes s.growth)
 
 -- after a loss: a segment narrower, but at least one segment
 abbrev pub lost : Iiad → Sizes
@@ -24,15 +23,18 @@ lost s = fresh s.growth.segment (max (s.growth.window - s.growth.segment) s.grow
 abbrev pub timed_out : Iiad → Sizes
 timed_out s = fresh s.growth.segment s.growth.segment
 
+never_zero : NeverZero inverse_limit
+never_zero m w small h = grind (arith, common_steps)
+
 -- each of these is within the bounds, which an Iiad carries with it
-pub credited_bounded : (s : Iiad) (n : ℕ) → Bounded inverse (credited s n)
-credited_bounded s n = iterate_keeps (Bounded inverse) (fill inverse) (fill_bounded inverse inverse_never_zero) n (sizes s.growth) s.growth.bounded
+pub credited_bounded : (s : Iiad) (n : ℕ) → Bounded inverse_limit (credited s n)
+credited_bounded s n = iterate_keeps (Bounded inverse_limit) (fill inverse_limit) (fill_bounded inverse_limit never_zero) n (sizes s.growth) s.growth.bounded
 
-pub lost_bounded : (s : Iiad) → Bounded inverse (lost s)
-lost_bounded s = let b = s.growth.bounded in grind (arith, common_steps, inverse_never_zero)
+pub lost_bounded : (s : Iiad) → Bounded inverse_limit (lost s)
+lost_bounded s = let b = s.growth.bounded in grind (arith, common_steps, never_zero)
 
-pub timed_out_bounded : (s : Iiad) → Bounded inverse (timed_out s)
-timed_out_bounded s = let b = s.growth.bounded in grind (arith, common_steps, inverse_never_zero)
+pub timed_out_bounded : (s : Iiad) → Bounded inverse_limit (timed_out s)
+timed_out_bounded s = let b = s.growth.bounded in grind (arith, common_steps, never_zero)
 
 abbrev pub iiad : Control Iiad
 iiad = record {

@@ -3,12 +3,10 @@ pub mod Control
 pub mod Faults
 pub mod Starts
 pub mod Growths
-pub mod Increases
 pub mod Views
 pub mod RenoRules
 pub mod IiadRules
 pub mod Layers
-pub mod Shares
 pub mod AtOnce
 pub mod Fillings
 pub mod Same

@@ -6,7 +6,7 @@ use Rattle.congestion.specs.Control.{Control}
 use Rattle.std.specs.Fn.{iterate}
 use Rattle.congestion.specs.Iterates.{iterate_keeps}
 use Rattle.congestion.specs.Starts.{first_window, Makes}
-use Rattle.congestion.specs.Growths.{Sizes, additive, at, fresh, fill, Bounded}
+use Rattle.congestion.specs.Growths.{Sizes, additive_limit, at, fresh, fill, Bounded}
 use Rattle.congestion.specs.Views.{sizes, resized}
 use Rattle.congestion.specs.declared.faults.ControllerFault.{ControllerFault}
 use Rattle.congestion.specs.declared.reno.Reno.{Reno}
@@ -17,7 +17,7 @@ climb g = at g (g.window + 1) g.carry
 
 -- one credited byte, at the threshold t
 abbrev pub byte : ℕ → Sizes → Sizes
-byte t g = cond (nat_lt g.window t) (climb g) (fill additive g)
+byte t g = cond (nat_lt g.window t) (climb g) (fill additive_limit g)
 
 -- after n credited bytes
 abbrev pub credited : Reno → ℕ → Sizes
@@ -36,19 +36,19 @@ abbrev pub timed_out : Reno → Sizes
 timed_out s = fresh s.growth.segment s.growth.segment
 
 -- each of these is within the bounds, which a Reno carries with it
-pub byte_bounded : (t : ℕ) → t ≤ 2 ^ 24 → (g : Sizes) → Bounded additive g → Bounded additive (byte t g)
+pub byte_bounded : (t : ℕ) → t ≤ 2 ^ 24 → (g : Sizes) → Bounded additive_limit g → Bounded additive_limit (byte t g)
 byte_bounded t limited g b = grind (arith, common_steps)
 
-pub credited_bounded : (s : Reno) (n : ℕ) → Bounded additive (credited s n)
-credited_bounded s n = iterate_keeps (Bounded additive) (byte s.threshold) (byte_bounded s.threshold s.limited) n (sizes s.growth) s.growth.bounded
+pub credited_bounded : (s : Reno) (n : ℕ) → Bounded additive_limit (credited s n)
+credited_bounded s n = iterate_keeps (Bounded additive_limit) (byte s.threshold) (byte_bounded s.threshold s.limited) n (sizes s.growth) s.growth.bounded
 
 pub halved_limited : (m f : ℕ) → halved m f ≤ 2 ^ 24
 halved_limited m f = omega arith
 
-pub lost_bounded : (s : Reno) (f : ℕ) → Bounded additive (lost s f)
+pub lost_bounded : (s : Reno) (f : ℕ) → Bounded additive_limit (lost s f)
 lost_bounded s f = let b = s.growth.bounded in grind (arith, common_steps)
 
-pub timed_out_bounded : (s : Reno) → Bounded additive (timed_out s)
+pub timed_out_bounded : (s : Reno) → Bounded additive_limit (timed_out s)
 timed_out_bounded s = let b = s.growth.bounded in grind (arith, common_steps)
 
 abbrev pub reno : Control Reno

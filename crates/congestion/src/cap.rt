@@ -1,6 +1,6 @@
 ghost use Rattle.std.specs.Prelude.{◌≡◌};
 ghost use Rattle.congestion.specs.Layers.{at_most};
-ghost use Rattle.std.proofs.Common.{arith};
+ghost use Rattle.std.proofs.Common.{rules};
 
 use crate::controller::Controller;
 use crate::narrowed::{Narrowed, Narrowing};
@@ -18,9 +18,9 @@ impl Narrowing for AtMost {
         window.min(self.cap)
     }
 
-    ghost no_wider = { λ r w. omega arith };
+    ghost no_wider = { Prim.search rules };
 
-    ghost monotone = { λ r v w h. omega arith };
+    ghost monotone = { Prim.search rules };
 }
 
 /// The window below, but no wider than `cap`, and of at least one segment.

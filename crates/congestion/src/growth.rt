@@ -8,7 +8,7 @@ use std::marker::PhantomData;
 pub(crate) trait Increase {
     ghost limit: { ℕ → ℕ → ℕ };
 
-    /// As many, at a window of so many bytes and of segments of so many.
+    /// The carry at which a window of these sizes grows.
     fn limit(segment: u32, window: u32) -> u64
         requires { 0 < segment }
         ensures { result ≡ limit segment window };

@@ -1,7 +1,7 @@
 ghost use Rattle.std.specs.Prelude.{ℕ, ◌≤◌};
-ghost use Rattle.congestion.specs.Growths.{additive, inverse};
-ghost use Rattle.congestion.specs.Increases.{inverse_never_zero, inverse_has_room};
-ghost use Rattle.std.proofs.Common.{arith};
+ghost use Rattle.congestion.specs.Growths.{additive_limit, inverse_limit};
+ghost use Rattle.std.proofs.Common.{rules};
+ghost use Rattle.std.proofs.lemmas.Grind.{common_steps};
 
 use crate::growth::Increase;
 
@@ -10,15 +10,15 @@ use crate::growth::Increase;
 pub(crate) struct Additive;
 
 impl Increase for Additive {
-    ghost limit = { additive };
+    ghost limit = { additive_limit };
 
     fn limit(_segment: u32, window: u32) -> u64 {
         window as u64
     }
 
-    ghost never_zero = { λ m w small h. omega arith };
+    ghost never_zero = { Prim.search rules };
 
-    ghost has_room = { λ m w h. omega arith };
+    ghost has_room = { Prim.search rules };
 }
 
 /// As many windows of them as the window has segments, a part of one counted whole.
@@ -26,13 +26,13 @@ impl Increase for Additive {
 pub(crate) struct Inverse;
 
 impl Increase for Inverse {
-    ghost limit = { inverse };
+    ghost limit = { inverse_limit };
 
     fn limit(segment: u32, window: u32) -> u64 {
         window as u64 * window.div_ceil(segment) as u64
     }
 
-    ghost never_zero = { inverse_never_zero };
+    ghost never_zero = { Prim.search rules };
 
-    ghost has_room = { inverse_has_room };
+    ghost has_room = { Prim.search (rules, common_steps) };
 }

@@ -1,6 +1,7 @@
-ghost use Rattle.std.specs.Prelude.{◌≡◌};
+ghost use Rattle.std.specs.Prelude.{◌≡◌, ◌≤◌, min, max};
 ghost use Rattle.congestion.specs.Layers.{some_eighths};
-ghost use Rattle.congestion.specs.Shares.{share_no_wider, share_monotone};
+ghost use Rattle.std.proofs.Common.{rules, arith, mul-le-mul_left};
+ghost use Rattle.std.proofs.lemmas.Grind.{common_steps};
 
 use crate::controller::Controller;
 use crate::narrowed::{Narrowed, Narrowing};
@@ -20,9 +21,11 @@ impl Narrowing for Eighths {
         (window as u64 * eighths / 8) as u32
     }
 
-    ghost no_wider = { share_no_wider };
+    ghost no_wider = { λ r w.
+        let few : max 1 (min r.eighths 8) ≤ 8 = omega arith in
+        omega (arith, mul-le-mul_left w few) };
 
-    ghost monotone = { share_monotone };
+    ghost monotone = { Prim.search (rules, common_steps) };
 }
 
 /// Some eighths of the window below, rounded down, but at least one segment.

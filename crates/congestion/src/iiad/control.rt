@@ -1,6 +1,6 @@
 ghost use Rattle.std.specs.Prelude.{◌≡◌, refl};
 ghost use Rattle.congestion.specs.IiadRules.{iiad, IiadStarts};
-ghost use Rattle.congestion.specs.Growths.{inverse, fill};
+ghost use Rattle.congestion.specs.Growths.{inverse_limit, fill};
 ghost use Rattle.congestion.specs.Iterates.{iterate_sum};
 ghost use Rattle.congestion.specs.Fillings.{fill_widens, fill_segment, never_narrows, same_segment};
 ghost use Rattle.congestion.specs.Views.{sizes};
@@ -29,11 +29,11 @@ impl Controller for Iiad {
 
     ghost lawful = { record {
       nothing = λ s. iiad_same _ _ refl;
-      together = λ s a b. iiad_same _ _ (iterate_sum (fill inverse) a b (sizes s.growth));
-      widens = λ s n. never_narrows (fill inverse) (fill_widens inverse) n (sizes s.growth) s.growth.bounded.3;
+      together = λ s a b. iiad_same _ _ (iterate_sum (fill inverse_limit) a b (sizes s.growth));
+      widens = λ s n. never_narrows (fill inverse_limit) (fill_widens inverse_limit) n (sizes s.growth) s.growth.bounded.3;
       small = λ s. s.growth.bounded.0;
       large = λ s. s.growth.bounded.1;
-      credit_keeps = λ s n. same_segment (fill inverse) (fill_segment inverse) n (sizes s.growth);
+      credit_keeps = λ s n. same_segment (fill inverse_limit) (fill_segment inverse_limit) n (sizes s.growth);
       loss_keeps = λ s f. refl;
       timeout_keeps = λ s f. refl;
       least = λ s. s.growth.bounded.2;
