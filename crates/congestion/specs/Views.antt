@@ -1,5 +1,4 @@
 -- A growth as its sizes. Assumes nothing.
-use Rattle.std.specs.Prelude.{◌≡◌, ℕ}
 use Rattle.congestion.specs.Growths.{Sizes, Bounded}
 use Rattle.congestion.specs.declared.growth.Growth.{Growth}
 

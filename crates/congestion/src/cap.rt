@@ -1,5 +1,5 @@
 ghost use Rattle.std.specs.Prelude.{◌≡◌};
-ghost use Rattle.congestion.specs.Layers.{at_most};
+ghost use Rattle.congestion.specs.Layers.{at_most, capped};
 ghost use Rattle.std.proofs.Common.{rules};
 
 use crate::controller::Controller;
@@ -31,6 +31,7 @@ impl<C: Controller> Cap<C> {
     pub fn new(below: C, cap: u32) -> Cap<C>
         ensures below { result.below ≡ below }
         ensures cap { result.rule.cap ≡ cap }
+        ensures control { ⟦<Cap<C> as Controller>⟧.control ≡ capped C.control }
     {
         let rule = AtMost { cap };
         Narrowed { below, rule }

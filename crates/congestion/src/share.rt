@@ -1,5 +1,5 @@
 ghost use Rattle.std.specs.Prelude.{◌≡◌, ◌≤◌, min, max};
-ghost use Rattle.congestion.specs.Layers.{some_eighths};
+ghost use Rattle.congestion.specs.Layers.{some_eighths, shared};
 ghost use Rattle.std.proofs.Common.{rules, arith, mul-le-mul_left};
 ghost use Rattle.std.proofs.lemmas.Grind.{common_steps};
 
@@ -36,6 +36,7 @@ impl<C: Controller> Share<C> {
     pub fn new(below: C, eighths: u32) -> Share<C>
         ensures below { result.below ≡ below }
         ensures eighths { result.rule.eighths ≡ eighths }
+        ensures control { ⟦<Share<C> as Controller>⟧.control ≡ shared C.control }
     {
         let rule = Eighths { eighths };
         Narrowed { below, rule }
