@@ -10,11 +10,11 @@ pub record Sizes : Type 0 where
   pub window : ℕ
   pub carry : ℕ
 
--- the carry at which a window of w bytes grows, for segments of m bytes: a window of them,
+-- the carry at which a window of w bytes grows, for segments of m bytes: at an additive increase
 abbrev pub additive_limit : ℕ → ℕ → ℕ
 additive_limit m w = w
 
--- or as many windows as it has segments
+-- and at an inverse one: as many windows as it has segments, a part of one counted whole
 abbrev pub inverse_limit : ℕ → ℕ → ℕ
 inverse_limit m w = w * div_ceil w m
 
@@ -35,10 +35,11 @@ abbrev pub wider : Sizes → Sizes
 wider g = fresh g.segment (min (g.window + g.segment) (2 ^ 24))
 
 module _ (limit : ℕ → ℕ → ℕ) where
-  -- what holds of a limit: it is not 0, and twice fits 64 bits
+  -- the limit is not 0
   abbrev pub NeverZero : Type 0
   NeverZero = (m w : ℕ) → 64 ≤ m → m ≤ w → 0 < limit m w
 
+  -- twice the limit fits 64 bits
   abbrev pub HasRoom : Type 0
   HasRoom = (m w : ℕ) → w ≤ 2 ^ 24 → limit m w < 2 ^ 63
 

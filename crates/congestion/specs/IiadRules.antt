@@ -1,9 +1,9 @@
 -- IIAD: inverse increase, additive decrease. Assumes nothing.
 use Rattle.std.specs.Prelude.{◌≡◌, ℕ, ◌-◌, max, Result}
+use Rattle.std.specs.Fn.{iterate}
 use Rattle.std.proofs.Common.{arith}
 use Rattle.std.proofs.lemmas.Grind.{common_steps}
 use Rattle.congestion.specs.Control.{Control}
-use Rattle.std.specs.Fn.{iterate}
 use Rattle.congestion.specs.Iterates.{iterate_keeps}
 use Rattle.congestion.specs.Starts.{first_window, Makes}
 use Rattle.congestion.specs.Growths.{Sizes, inverse_limit, fresh, fill, Bounded, NeverZero, fill_bounded}

@@ -1,9 +1,9 @@
 -- Reno by bytes. Assumes nothing.
 use Rattle.std.specs.Prelude.{◌≡◌, ℕ, ◌+◌, ◌*◌, ◌/◌, ◌^◌, ◌≤◌, min, max, cond, Result, nat_lt}
+use Rattle.std.specs.Fn.{iterate}
 use Rattle.std.proofs.Common.{arith}
 use Rattle.std.proofs.lemmas.Grind.{common_steps}
 use Rattle.congestion.specs.Control.{Control}
-use Rattle.std.specs.Fn.{iterate}
 use Rattle.congestion.specs.Iterates.{iterate_keeps}
 use Rattle.congestion.specs.Starts.{first_window, Makes}
 use Rattle.congestion.specs.Growths.{Sizes, additive_limit, at, fresh, fill, Bounded}
