@@ -20,7 +20,7 @@ inverse_limit m w = w * div_ceil w m
 
 -- g with another window and carry
 abbrev pub at : Sizes → ℕ → ℕ → Sizes
-at g w c = record { segment = g.segment; window = w; carry = c }
+at g w c = record g { window = w; carry = c }
 
 -- a window of w bytes, and nothing in the carry
 abbrev pub fresh : ℕ → ℕ → Sizes
@@ -47,7 +47,7 @@ module _ (limit : ℕ → ℕ → ℕ) where
   abbrev pub fill : Sizes → Sizes
   fill g = cond (nat_lt (g.carry + 1) (limit g.segment g.window)) (counted g) (wider g)
 
-  -- what a controller of this kind keeps: a segment has 64 to 9000 bytes, the window a segment to 2^24, and the carry is below its limit
+  -- what always holds of a window that grows: a segment has 64 to 9000 bytes, the window a segment to 2^24, and the carry is below its limit
   abbrev pub Bounded : Sizes → Type 0
   Bounded g = (64 ≤ g.segment) × (g.segment ≤ 9000) × (g.segment ≤ g.window) × (g.window ≤ 2 ^ 24) × (g.carry < limit g.segment g.window)
 

@@ -10,9 +10,9 @@ abbrev pub narrowed : {C R : Type 0} → Control C → (R → ℕ → ℕ) → C
 narrowed k bound = record {
   segment = λ s. k.segment s.below;
   window = λ s. max (bound s.rule (k.window s.below)) (k.segment s.below);
-  credit = λ s n. record { below = k.credit s.below n; rule = s.rule };
-  loss = λ s f. record { below = k.loss s.below f; rule = s.rule };
-  timeout = λ s f. record { below = k.timeout s.below f; rule = s.rule };
+  credit = λ s n. record s { below = k.credit s.below n };
+  loss = λ s f. record s { below = k.loss s.below f };
+  timeout = λ s f. record s { below = k.timeout s.below f };
 }
 
 -- a window of w bytes, but at most the cap

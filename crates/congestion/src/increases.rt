@@ -13,7 +13,7 @@ impl Increase for Additive {
     ghost limit = { additive_limit };
 
     fn limit(_segment: u32, window: u32) -> u64 {
-        window as u64
+        u64::from(window)
     }
 
     ghost never_zero = { Prim.search rules };
@@ -29,7 +29,7 @@ impl Increase for Inverse {
     ghost limit = { inverse_limit };
 
     fn limit(segment: u32, window: u32) -> u64 {
-        window as u64 * window.div_ceil(segment) as u64
+        u64::from(window) * u64::from(window.div_ceil(segment))
     }
 
     ghost never_zero = { Prim.search rules };

@@ -25,7 +25,7 @@ pub struct Narrowed<C, R> {
 }
 
 impl<C: Controller, R: Narrowing> Controller for Narrowed<C, R> {
-    ghost control = { narrowed C.Controller.control R.Narrowing.bound };
+    ghost control = { narrowed C.control R.bound };
 
     ghost lawful = { Prim.search rules };
 

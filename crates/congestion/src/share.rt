@@ -17,8 +17,8 @@ impl Narrowing for Eighths {
     ghost bound = { some_eighths };
 
     fn bound(&self, window: u32) -> u32 {
-        let eighths = self.eighths.clamp(1, 8) as u64;
-        (window as u64 * eighths / 8) as u32
+        let eighths = u64::from(self.eighths.clamp(1, 8));
+        (u64::from(window) * eighths / 8) as u32
     }
 
     ghost no_wider = { λ r w.

@@ -32,7 +32,7 @@ impl Reno {
         ensures { result ≡ climbing self.now bytes }
     {
         let below = self.threshold.saturating_sub(self.window());
-        bytes.min(below as u64) as u32
+        bytes.min(u64::from(below)) as u32
     }
 }
 
@@ -41,7 +41,9 @@ fn halved(segment: u32, flight: u64) -> u32
     requires { segment ≤ 9000 }
     ensures { result ≡ halved segment flight }
 {
-    (flight / 2).max(2 * segment as u64).min(WIDEST as u64) as u32
+    (flight / 2)
+        .max(2 * u64::from(segment))
+        .min(u64::from(WIDEST)) as u32
 }
 
 impl Controller for Reno {
@@ -73,7 +75,7 @@ impl Controller for Reno {
         let climbed = self.climbing(bytes);
         let growth = &mut self.growth;
         growth.window += climbed;
-        growth.fill(bytes - climbed as u64);
+        growth.fill(bytes - u64::from(climbed));
     }
 
     fn loss(&mut self, flight: u64) {
