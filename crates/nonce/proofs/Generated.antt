@@ -2,6 +2,6 @@
 use Rattle.std.proofs.Common.{◌≡◌, ℕ, zero, suc, length, refl, ap}
 use Rattle.nonce.specs.SplitMix.{stepped, generated}
 
-pub length-generated : (count state : ℕ) → length (generated count state) ≡ count
-length-generated zero state = refl
-length-generated (suc count) state = ap suc (length-generated count (stepped state))
+pub words_counted : (count state : ℕ) → length (generated count state) ≡ count
+words_counted zero state = refl
+words_counted (suc count) state = ap suc (words_counted count (stepped state))

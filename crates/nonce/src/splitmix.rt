@@ -42,6 +42,7 @@ impl NonceSource for SplitMix64 {
         Ok(next_word(&mut self.state))
     }
 
+    #[tactic(auto, using(crate::proofs::Generated::words_counted))]
     fn left(&self) -> u64 {
         self.count
     }
