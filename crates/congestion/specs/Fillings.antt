@@ -29,11 +29,14 @@ module _ (limit : ℕ → ℕ → ℕ) where
   fill_widens g most = grind (arith, common_steps)
 
   -- n bytes do not widen the window: it is as wide as can be, or they are too few
-  abbrev Stays : ℕ → Sizes → Type 0
+  abbrev pub Stays : ℕ → Sizes → Type 0
   Stays n g = (g.window ≡ 2 ^ 24) ⊎ (g.carry + n < limit g.segment g.window)
 
+  pub not_widened : (n : ℕ) (g : Sizes) → g.window ≤ 2 ^ 24 → widens limit g n ≡ false → Stays n g
+  not_widened n g most no_more = grind (arith, common_steps)
+
   -- then the carry goes round
-  stays : (n : ℕ) (g : Sizes) → g.carry < limit g.segment g.window → Stays n g → iterate (fill limit) n g ≡ at g g.window ((g.carry + n) % limit g.segment g.window)
+  pub stays : (n : ℕ) (g : Sizes) → g.carry < limit g.segment g.window → Stays n g → iterate (fill limit) n g ≡ at g g.window ((g.carry + n) % limit g.segment g.window)
   stays zero g h s = rw (add-zero, mod-eq_of_lt)
   stays (suc n) g h s =
       let top = limit g.segment g.window in
@@ -44,12 +47,17 @@ module _ (limit : ℕ → ℕ → ℕ) where
       grind (arith, common_steps, stays n (counted g), stays n (wider g), few, full)
 
   -- as code that must not overflow computes it
-  pub ends : (n : ℕ) (g : Sizes) → g.window ≤ 2 ^ 24 → g.carry < limit g.segment g.window → widens limit g n ≡ false → iterate (fill limit) n g ≡ carried limit g n
-  ends n g most h no_more =
-      let s : Stays n g = grind (arith, common_steps) in
-      rw add-mod-mod (stays n g h s)
+  pub carries : (n : ℕ) (g : Sizes) → g.carry < limit g.segment g.window → Stays n g → iterate (fill limit) n g ≡ carried limit g n
+  carries n g h s = rw add-mod-mod (stays n g h s)
 
-  -- bytes that widen the window: after those that the carry is short of come the others
+  -- as many bytes as the carry is short of its limit widen the window, and the others come after that
+  pub widens_first : (n : ℕ) (g : Sizes) → g.carry < limit g.segment g.window → missing limit g ≤ n → iterate (fill limit) n g ≡ iterate (fill limit) (n - missing limit g) (wider g)
+  widens_first zero g h enough = absurd (omega arith)
+  widens_first (suc n) g h enough = grind (arith, common_steps, widens_first n (counted g))
+
+  -- a turn of the code's loop, and what is left after the last one
   pub turns : (n : ℕ) (g : Sizes) → g.carry < limit g.segment g.window → widens limit g n ≡ true → iterate (fill limit) n g ≡ iterate (fill limit) (n - missing limit g) (wider g)
-  turns zero g h more = grind (arith, common_steps)
-  turns (suc n) g h more = grind (arith, common_steps, turns n (counted g))
+  turns n g h more = widens_first n g h (grind (arith, common_steps))
+
+  pub ends : (n : ℕ) (g : Sizes) → g.window ≤ 2 ^ 24 → g.carry < limit g.segment g.window → widens limit g n ≡ false → iterate (fill limit) n g ≡ carried limit g n
+  ends n g most h no_more = carries n g h (not_widened n g most no_more)

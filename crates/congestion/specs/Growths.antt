@@ -51,6 +51,10 @@ module _ (limit : ℕ → ℕ → ℕ) where
   abbrev pub Bounded : Sizes → Type 0
   Bounded g = (64 ≤ g.segment) × (g.segment ≤ 9000) × (g.segment ≤ g.window) × (g.window ≤ 2 ^ 24) × (g.carry < limit g.segment g.window)
 
--- a credited byte keeps it
+-- a credited byte is within these bounds
 pub fill_bounded : (limit : ℕ → ℕ → ℕ) → NeverZero limit → (g : Sizes) → Bounded limit g → Bounded limit (fill limit g)
 fill_bounded limit never_zero g b = grind (arith, common_steps, never_zero)
+
+-- and so does a new window of at least a segment
+pub fresh_bounded : (limit : ℕ → ℕ → ℕ) → NeverZero limit → (m w : ℕ) → 64 ≤ m → m ≤ 9000 → m ≤ w → w ≤ 2 ^ 24 → Bounded limit (fresh m w)
+fresh_bounded limit never_zero m w small large least most = (small, large, least, most, never_zero m w small least)

@@ -6,7 +6,7 @@ use Rattle.std.proofs.lemmas.Grind.{common_steps}
 use Rattle.congestion.specs.Control.{Control}
 use Rattle.congestion.specs.Iterates.{iterate_keeps}
 use Rattle.congestion.specs.Starts.{first_window, Makes}
-use Rattle.congestion.specs.Growths.{Sizes, inverse_limit, fresh, fill, Bounded, NeverZero, fill_bounded}
+use Rattle.congestion.specs.Growths.{Sizes, inverse_limit, fresh, fill, Bounded, NeverZero, fresh_bounded, fill_bounded}
 use Rattle.congestion.specs.Views.{sizes, resized}
 use Rattle.congestion.specs.declared.faults.ControllerFault.{ControllerFault}
 use Rattle.congestion.specs.declared.iiad.Iiad.{Iiad}
@@ -31,10 +31,10 @@ pub credited_bounded : (s : Iiad) (n : ℕ) → Bounded inverse_limit (credited 
 credited_bounded s n = iterate_keeps (Bounded inverse_limit) (fill inverse_limit) (fill_bounded inverse_limit never_zero) n (sizes s.growth) s.growth.bounded
 
 pub lost_bounded : (s : Iiad) → Bounded inverse_limit (lost s)
-lost_bounded s = let b = s.growth.bounded in grind (arith, common_steps, never_zero)
+lost_bounded s = let b = s.growth.bounded in fresh_bounded inverse_limit never_zero s.growth.segment (lost s).window b.0 b.1 (omega arith) (omega arith)
 
 pub timed_out_bounded : (s : Iiad) → Bounded inverse_limit (timed_out s)
-timed_out_bounded s = let b = s.growth.bounded in grind (arith, common_steps, never_zero)
+timed_out_bounded s = let b = s.growth.bounded in fresh_bounded inverse_limit never_zero s.growth.segment s.growth.segment b.0 b.1 (omega arith) (omega arith)
 
 abbrev pub iiad : Control Iiad
 iiad = record {
