@@ -44,12 +44,8 @@ oldest_passes p (c ∷ cs) some = let rest = oldest_passes p cs in grind (arith,
 
 module _ {C : Type 0} (k : Control C) (s : State C) where
   idle : (x : Call) {f : Refusal} → first_refusal (checks k s x) ≡ Some f → Idle s x
-  idle (send l) some = tt
   idle (acknowledge e m x) some = λ within same. grind (arith, nat_tests)
-  idle timeout some = tt
-  idle take some = tt
-  idle (repeat o) some = tt
-  idle (put_back o) some = tt
+  idle other some = tt
 
   accepts : (x : Call) → All (λ c. c.test ≡ false) (checks k s x) → Step k s x (accepted k s x)
   accepts (send l) pass = sends (grind (arith, nat_tests)) (grind (arith, nat_tests))

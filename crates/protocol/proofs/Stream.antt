@@ -21,12 +21,6 @@ one_past e o (g ∷ gs) joined from below = let rest = one_past e (finish g) gs 
 
 module _ {C : Type 0} {k : Control C} {s : State C} (h : History) (sent_is : s.sent ≡ bytes (segments h)) where
   pub keeps_end_to_end : {x : Call} {r : Reply C} → Step k s x r → EndToEnd 0 (segments h) → EndToEnd 0 (segments (noted x r.answer h))
-  keeps_end_to_end (refuses idle) joined = joined
   keeps_end_to_end (sends some enough) joined = end_to_end_push 0 (segments h) _ joined (omega arith) some
-  keeps_end_to_end (advances past within same) joined = joined
   keeps_end_to_end (counts o true level found) joined = joined
-  keeps_end_to_end (counts o false level found) joined = joined
-  keeps_end_to_end (expires past) joined = joined
-  keeps_end_to_end orders joined = joined
-  keeps_end_to_end repeats joined = joined
-  keeps_end_to_end returns joined = joined
+  keeps_end_to_end other joined = joined
