@@ -133,12 +133,8 @@ module _ {C : Type 0} {ws : List ℕ} {s : State C} {gs : List Segment} {os : Li
 
 module _ {C : Type 0} {k : Control C} {ws : List ℕ} {s : State C} (h : History) (t : ClaimTable ws s (segments h) (starts_counted h)) where
   pub keeps_table : {x : Call} {r : Reply C} → Step k s x r → ClaimTable ws r.state (segments (noted x r.answer h)) (starts_counted (noted x r.answer h))
-  keeps_table (refuses idle) = t
   keeps_table (sends some enough) = sent_table t _ refl some
   keeps_table (advances past within same) = advanced_table t k _ past within
   keeps_table (counts {x} o true level found) = counted_table t k x o true found
   keeps_table (counts {x} o false level found) = counted_table t k x o false found
-  keeps_table (expires past) = unmoved t _ _ _
-  keeps_table orders = unmoved t _ _ _
-  keeps_table repeats = t
-  keeps_table returns = unmoved t _ _ _
+  keeps_table other = unmoved t _ _ _

@@ -34,15 +34,12 @@ module _ {C : Type 0} {ws : List ℕ} {s : State C} (h : History) (t : ClaimTabl
       omega (arith, count_more before after (λ g passes. grind (arith, nat_tests)) (segments h) new)
 
   pub keeps_backed : {k : Control C} {x : Call} {r : Reply C} → Step k s x r → Backed s h → Backed r.state (noted x r.answer h)
-  keeps_backed (refuses idle) backed = backed
   keeps_backed (sends some enough) backed = rw sum_push (omega arith)
   keeps_backed (advances past within same) backed = omega arith
   keeps_backed (counts {x} o true level found) backed = one_more x o found backed
   keeps_backed (counts {x} o false level found) backed = one_more x o found backed
   keeps_backed (expires past) backed = omega arith
-  keeps_backed orders backed = backed
-  keeps_backed repeats backed = backed
-  keeps_backed returns backed = backed
+  keeps_backed other backed = backed
 
   module _ (proved : s.proved ≡ farthest h) where
     pub duplicates_bounded : Backed s h → s.duplicates ≤ beyond h
@@ -59,12 +56,6 @@ module _ {C : Type 0} {ws : List ℕ} {s : State C} (h : History) (t : ClaimTabl
         }
 
     pub counted_so : {k : Control C} {x : Call} {r : Reply C} → Step k s x r → (o : ℕ) → counted_for r.answer ≡ Some o → Counted h x o
-    counted_so (refuses idle) o is = grind arith
-    counted_so (sends some enough) o is = grind arith
-    counted_so (advances past within same) o is = grind arith
     counted_so (counts q true level found) o is = found_counted (cc) found
     counted_so (counts q false level found) o is = found_counted (cc) found
-    counted_so (expires past) o is = grind arith
-    counted_so orders o is = grind arith
-    counted_so repeats o is = grind arith
-    counted_so returns o is = grind arith
+    counted_so other o is = grind arith

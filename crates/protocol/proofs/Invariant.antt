@@ -36,45 +36,30 @@ pub record Follows {C : Type 0} (k : Control C) (c : C) (ws : List ℕ) (s : Sta
 
 module _ {C : Type 0} {k : Control C} {c : C} {ws : List ℕ} {s : State C} {h : History} (i : Follows k c ws s h) where
   idle_proved : (x : Call) (f : Refusal) → Idle s x → s.proved ≡ farthest (noted x (refused f) h)
-  idle_proved (send l) f idle = i.proved
   idle_proved (acknowledge e m x) f idle = let same = true_sum_is i.table e in grind (arith, nat_tests)
-  idle_proved timeout f idle = i.proved
-  idle_proved take f idle = i.proved
-  idle_proved (repeat o) f idle = i.proved
-  idle_proved (put_back o) f idle = i.proved
+  idle_proved other f idle = i.proved
 
   keeps_proved : {x : Call} {r : Reply C} → Step k s x r → r.state.proved ≡ farthest (noted x r.answer h)
   keeps_proved (refuses {x} {f} idle) = idle_proved x f idle
-  keeps_proved (sends some enough) = i.proved
   keeps_proved (advances {e} past within same) = let whole = true_sum_is i.table e in grind (arith, nat_tests)
   keeps_proved (counts o true level found) = grind (arith, nat_tests)
   keeps_proved (counts o false level found) = grind (arith, nat_tests)
-  keeps_proved (expires past) = i.proved
-  keeps_proved orders = i.proved
-  keeps_proved repeats = i.proved
-  keeps_proved returns = i.proved
+  keeps_proved other = i.proved
 
   keeps_duplicates : {x : Call} {r : Reply C} → Step k s x r → r.state.duplicates ≡ duplicates_since (noted x r.answer h)
-  keeps_duplicates (refuses idle) = i.duplicates
-  keeps_duplicates (sends some enough) = i.duplicates
   keeps_duplicates (advances past within same) = refl
   keeps_duplicates (counts o true level found) = ap (λ n. n + 1) i.duplicates
   keeps_duplicates (counts o false level found) = ap (λ n. n + 1) i.duplicates
   keeps_duplicates (expires past) = refl
-  keeps_duplicates orders = i.duplicates
-  keeps_duplicates repeats = i.duplicates
-  keeps_duplicates returns = i.duplicates
+  keeps_duplicates other = i.duplicates
 
   keeps_due : {x : Call} {r : Reply C} → Step k s x r → r.state.due ≡ repeat_due (noted x r.answer h)
-  keeps_due (refuses idle) = i.due
-  keeps_due (sends some enough) = i.due
   keeps_due (advances past within same) = refl
   keeps_due (counts o true level found) = refl
-  keeps_due (counts o false level found) = i.due
   keeps_due (expires past) = refl
   keeps_due orders = refl
-  keeps_due repeats = i.due
   keeps_due (returns {o}) = rw (i.due, i.table.claims, leads-map (on (starts_at o)) (claim (starts_counted h)), i.proved) refl
+  keeps_due other = i.due
 
   keeps : Lawful k → {x : Call} {r : Reply C} → Step k s x r → Follows k c ws r.state (noted x r.answer h)
   keeps laws st = record {

@@ -105,10 +105,8 @@ module _ {C : Type 0} (k : Control C) (o v N : ℕ) (ws : List ℕ) (room : 2 * 
     same_first : (x : Call) → Upto o x → first_refusal (checks k now x) ≡ first_refusal (checks k s x)
     same_first (send l) upto = rw (length-map, words_left) refl
     same_first (acknowledge e m x) upto = same_checks t k o v (left h) e m x upto
-    same_first timeout upto = refl
-    same_first take upto = refl
     same_first (repeat q) upto = rw (any-map (on (starts_at q)) (renonced o v)) refl
-    same_first (put_back q) upto = refl
+    same_first x upto = refl
 
     -- a duplicate makes no segment
     no_segment : (x : Call) (q : ℕ) (third : Bool) → segments (noted x (cond third (lost q) (counted q)) h) ≡ segments h
@@ -130,10 +128,8 @@ module _ {C : Type 0} (k : Control C) (o v N : ℕ) (ws : List ℕ) (room : 2 * 
         go : (past : Bool) → (acknowledged k now e x past).state ≡ after (acknowledge e m x) (acknowledged k s e x past)
         go true = same_advance t k o v (left h) e upto
         go false = same_counted e m x
-    same_accepted timeout upto = refl
-    same_accepted take upto = refl
-    same_accepted (repeat q) upto = refl
     same_accepted (put_back q) upto = rw (leads-map (on (starts_at q)) (renonced o v)) refl
+    same_accepted x upto = refl
 
     same_reply : (x : Call) → Upto o x → (reply k now x).state ≡ after x (reply k s x)
     same_reply x upto = ap (λ f. (concluded k now x f).state) (same_first x upto) ∙ go (first_refusal (checks k s x))
@@ -144,12 +140,8 @@ module _ {C : Type 0} (k : Control C) (o v N : ℕ) (ws : List ℕ) (room : 2 * 
 
     -- an end past o that lies beyond the bytes sent is refused by both
     pub other_reply : (x : Call) → reaches o x h ≡ false → (reply k now x).state ≡ after x (reply k s x)
-    other_reply (send l) quiet = same_reply (send l) tt
     other_reply (acknowledge e m x) quiet = ⊎_elim
         (λ past. rw (lt-ltb s.sent e past) refl)
         (λ within. same_reply (acknowledge e m x) (grind (arith, nat_tests, t.sent)))
         (cases_lt s.sent e)
-    other_reply timeout quiet = same_reply timeout tt
-    other_reply take quiet = same_reply take tt
-    other_reply (repeat q) quiet = same_reply (repeat q) tt
-    other_reply (put_back q) quiet = same_reply (put_back q) tt
+    other_reply x quiet = same_reply x tt

@@ -24,12 +24,8 @@ use Rattle.protocol.proofs.Invariant.{Follows, control_is}
 
 module _ {C : Type 0} (k : Control C) (s : State C) where
   not_refused : (x : Call) → refusal_of (accepted k s x).answer ≡ None
-  not_refused (send l) = refl
   not_refused (acknowledge e m x) = grind arith
-  not_refused timeout = refl
-  not_refused take = refl
-  not_refused (repeat o) = refl
-  not_refused (put_back o) = refl
+  not_refused other = refl
 
   -- the refusal in an answer is the first that the checks find
   pub refusal_is : (x : Call) → refusal_of (reply k s x).answer ≡ first_refusal (checks k s x)

@@ -38,19 +38,18 @@ module _ {C : Type 0} {ws : List ℕ} {s : State C} (h : History) (t : ClaimTabl
   found_outstanding x o found = any_wider _ (ends_past s.proved) (λ g passes. grind (arith, nat_tests)) (segments h) (found_segment t x o found)
 
   pub keeps_waiting : {k : Control C} {x : Call} {r : Reply C} → Step k s x r → Waiting s h → Waiting r.state (noted x r.answer h)
-  keeps_waiting (refuses idle) waiting = waiting
   keeps_waiting (sends some enough) waiting = λ due. let before = waiting due in rw any_push (grind arith)
   keeps_waiting (advances past within same) waiting = λ due. absurd (false≢true due)
   keeps_waiting (counts {x} o true level found) waiting = λ due. found_outstanding x o found
   keeps_waiting (counts {x} o false level found) waiting = λ due. found_outstanding x o found
   keeps_waiting (expires past) waiting = λ due. one_past s.proved 0 (segments h) joined (omega arith) (omega (arith, t.sent))
   keeps_waiting orders waiting = λ due. absurd (false≢true due)
-  keeps_waiting repeats waiting = waiting
   keeps_waiting (returns {o}) waiting = λ due.
       let oldest_is : leads (on (starts_at o)) s.claims ≡ leads (starts_at o) (kept_by (ends_past s.proved) (segments h)) =
       ap (leads (on (starts_at o))) t.claims ∙ leads-map (on (starts_at o)) (claim (starts_counted h)) _ in
       let again = kept_some (starts_at o) (ends_past s.proved) (segments h) in
       grind arith
+  keeps_waiting other waiting = waiting
 
 module _ {C : Type 0} (k : Control C) {ws : List ℕ} {s : State C} {gs : List Segment} {os : List ℕ} (t : ClaimTable ws s gs os) where
   abbrev pending : List Segment

@@ -43,15 +43,10 @@ module _ {C : Type 0} {k : Control C} (laws : Lawful k) where
     tells_now kind = rw (← sent) (told_more i kind (farthest h) s.sent proved)
 
     pub keeps_steered : {x : Call} {r : Reply C} → Step k s x r → Steered k c r.state.control r.state.proved (signals (noted x r.answer h))
-    keeps_steered (refuses idle) = i
-    keeps_steered (sends some enough) = i
     keeps_steered (advances {e} past within same) = credited_more i e (omega arith)
     keeps_steered (counts o true level found) = tells_now loss
-    keeps_steered (counts o false level found) = i
     keeps_steered (expires past) = tells_now expiry
-    keeps_steered orders = i
-    keeps_steered repeats = i
-    keeps_steered returns = i
+    keeps_steered other = i
 
   wider_credit : (d : C) (a b : ℕ) → a ≤ b → k.window (k.credit d a) ≤ k.window (k.credit d b)
   wider_credit d a b less =

@@ -22,12 +22,8 @@ use Rattle.protocol.proofs.ClaimTable.{ClaimTable, Lies}
 
 -- an end past the bytes sent reaches nothing
 pub unreached : (o : ℕ) (h : History) (x : Call) → bytes (segments h) ≤ o → reaches o x h ≡ false
-unreached o h (send l) short = refl
 unreached o h (acknowledge e m x) short = grind (arith, nat_tests)
-unreached o h timeout short = refl
-unreached o h take short = refl
-unreached o h (repeat q) short = refl
-unreached o h (put_back q) short = refl
+unreached o h other short = refl
 
 -- up to the send at o, before which N segments were sent: all N are sent where all bytes before o are
 abbrev pub Early : ℕ → ℕ → ℕ → ℕ → Type 0
@@ -42,15 +38,9 @@ pub record Held (o N : ℕ) (gs : List Segment) (so_far proved : ℕ) : Type 0 w
 
 module _ {C : Type 0} {k : Control C} {s : State C} (h : History) where
   pub earlier : {x : Call} {r : Reply C} → Step k s x r → (o N : ℕ) → Early o N (length (segments (noted x r.answer h))) r.state.sent → Early o N (length (segments h)) s.sent
-  earlier (refuses idle) o N early = early
   earlier (sends {l} some enough) o N early = let n = length_push (segments h) (next s l) in (omega arith, omega arith, grind (arith, nat_tests))
-  earlier (advances past within same) o N early = early
   earlier (counts q true level found) o N early = early
-  earlier (counts q false level found) o N early = early
-  earlier (expires past) o N early = early
-  earlier orders o N early = early
-  earlier repeats o N early = early
-  earlier returns o N early = early
+  earlier other o N early = early
 
   module _ {ws : List ℕ} (t : ClaimTable ws s (segments h) (starts_counted h)) where
     -- an answered send: where its segment starts, and that there were words for it
@@ -74,7 +64,6 @@ module _ {C : Type 0} {k : Control C} {s : State C} (h : History) where
 
     pub still_held : {x : Call} {r : Reply C} → Step k s x r → {o N : ℕ} → Held o N (segments h) s.sent s.proved → reaches o x h ≡ false →
         Held o N (segments (noted x r.answer h)) r.state.sent r.state.proved
-    still_held (refuses idle) held quiet = held
     still_held (sends {l} some enough) {o} held quiet = record {
       later = omega (arith, length_push (segments h) (next s l), held.later);
       beyond = omega (arith, held.beyond);
@@ -83,8 +72,4 @@ module _ {C : Type 0} {k : Control C} {s : State C} (h : History) where
     }
     still_held (advances past within same) held quiet = record { later = held.later; beyond = held.beyond; unproved = grind (arith, nat_tests, t.sent); one = held.one }
     still_held (counts q true level found) held quiet = held
-    still_held (counts q false level found) held quiet = held
-    still_held (expires past) held quiet = held
-    still_held orders held quiet = held
-    still_held repeats held quiet = held
-    still_held returns held quiet = held
+    still_held other held quiet = held
