@@ -1,8 +1,6 @@
 -- What is answered to a send and to an acknowledgement that are not refused. Assumes nothing.
-use Rattle.std.proofs.Common.{◌≡◌, ℕ, ◌<◌, Bool, true, false, cond, ◌&&◌, eqb, ltb, List, [], ◌∷◌, map, Some, None, sym, refl, ap, ◌∙◌, add-zero, arith}
-use Rattle.std.specs.List.{AllByRecursion as All}
+use Rattle.std.proofs.Common.{◌≡◌, ℕ, ◌<◌, Bool, true, false, cond, ◌&&◌, eqb, ltb, suc, List, [], ◌∷◌, map, All, Some, None, sym, refl, ap, ◌∙◌, add-zero, arith}
 use Rattle.std.proofs.lemmas.List.{get_or-drop}
-use Rattle.std.proofs.ByRecursion.{All-weaker}
 use Rattle.std.proofs.lemmas.Bool.Decides.{nat_tests}
 use Rattle.congestion.specs.Control.{Control}
 use Rattle.protocol.specs.declared.segment.Segment.{Segment}
@@ -18,7 +16,7 @@ use Rattle.protocol.specs.History.{History, segments, upcoming, farthest}
 use Rattle.protocol.specs.Signals.{signal_kind}
 use Rattle.protocol.specs.Signals.Kind.{loss}
 use Rattle.protocol.specs.Duplicates.{counted_for, starts_counted, uncounted, oldest_start, duplicates_since}
-use Rattle.protocol.proofs.ClaimTable.{Lies, claim}
+use Rattle.protocol.proofs.ClaimTable.{claim}
 use Rattle.protocol.proofs.Invariant.{Follows}
 use Rattle.protocol.proofs.Refusals.{accepted_is}
 
@@ -26,19 +24,14 @@ use Rattle.protocol.proofs.Refusals.{accepted_is}
 oldest_kept : (os : List ℕ) (p : Claim → Bool) (r q : Segment → Bool) (gs : List Segment) → All (λ g. (r g && p (claim os g)) ≡ q g) gs →
     oldest p (map (claim os) (kept_by r gs)) ≡ oldest_start q gs
 oldest_kept os p r q [] same = refl
-oldest_kept os p r q (g ∷ gs) same = let rest = oldest_kept os p r q gs same.1 in grind arith
+oldest_kept os p r q (g ∷ gs) same =
+    let rest = oldest_kept os p r q gs (λ k d within. same (suc k) d (omega arith)) in
+    let here = same 0 g (omega arith) in
+    grind arith
 
 -- the answer to a duplicate for the segment at o, and whether it is the third
 abbrev duplicate_answer : Bool → ℕ → Answer
 duplicate_answer third o = cond third (lost o) (counted o)
-
-counted_either : (third : Bool) (o : ℕ) → counted_for (duplicate_answer third o) ≡ Some o
-counted_either true o = refl
-counted_either false o = refl
-
-signal_kind_either : (third : Bool) (o : ℕ) → signal_kind (duplicate_answer third o) ≡ cond third (Some loss) None
-signal_kind_either true o = refl
-signal_kind_either false o = refl
 
 module _ {C : Type 0} {k : Control C} {c : C} {ws : List ℕ} {s : State C} {h : History} (i : Follows k c ws s h) where
   next_is : (l : ℕ) → next s l ≡ upcoming ws h l
@@ -59,15 +52,14 @@ module _ {C : Type 0} {k : Control C} {c : C} {ws : List ℕ} {s : State C} {h :
 
     oldest_is : oldest (unspent s.proved x) s.claims ≡ oldest_start (uncounted h x) (segments h)
     oldest_is =
-        let tests = All-weaker (Lies s.sent) _ (λ g lies. grind (arith, nat_tests, i.proved)) (segments h) i.table.lie in
-        ap (oldest (unspent s.proved x)) i.table.claims ∙ oldest_kept (starts_counted h) (unspent s.proved x) (ends_past s.proved) (uncounted h x) (segments h) tests
+        ap (oldest (unspent s.proved x)) i.table.claims ∙ oldest_kept (starts_counted h) (unspent s.proved x) (ends_past s.proved) (uncounted h x) (segments h) (λ k d within. let lies = i.table.lie k d within in grind (arith, nat_tests, i.proved))
 
     module _ (level : e ≡ farthest h) where
       duplicate_so : (reply k s (acknowledge e m x)).answer ≡ duplicate_answer (eqb (duplicates_since h) 2) (oldest_start (uncounted h x) (segments h))
       duplicate_so = acknowledged_so false (grind (arith, nat_tests)) ∙ rw (oldest_is, i.duplicates) refl
 
       pub oldest_so : counted_for (reply k s (acknowledge e m x)).answer ≡ Some (oldest_start (uncounted h x) (segments h))
-      oldest_so = ap counted_for duplicate_so ∙ counted_either (eqb (duplicates_since h) 2) _
+      oldest_so = rw duplicate_so (grind arith)
 
       pub third_so : signal_kind (reply k s (acknowledge e m x)).answer ≡ cond (eqb (duplicates_since h) 2) (Some loss) None
-      third_so = ap signal_kind duplicate_so ∙ signal_kind_either (eqb (duplicates_since h) 2) _
+      third_so = rw duplicate_so (grind arith)

@@ -1,10 +1,9 @@
 -- The claims of a sender against the segments sent and the starts counted. Assumes nothing.
-use Rattle.std.proofs.Common.{◌≡◌, ℕ, ◌+◌, ◌*◌, ◌%◌, ◌^◌, ◌<◌, ◌≤◌, Bool, true, false, not, ◌&&◌, List, [], ◌∷◌, ◌++◌, map, length, drop, sym, refl, ap, ◌∙◌, add-zero, arith}
-use native.Mathlib.Nat.{mod-add-mod}
-use Rattle.std.specs.List.{AllByRecursion as All}
+use Rattle.std.proofs.Common.{◌≡◌, ℕ, ◌+◌, ◌*◌, ◌%◌, ◌^◌, ◌<◌, ◌≤◌, Bool, true, false, not, ◌&&◌, List, [], ◌∷◌, ◌++◌, map, length, get_or, drop, nat_eq, All, sym, refl, ap, ◌∙◌, add-zero, arith}
+use Rattle.std.proofs.Math.Nat.{mod-add-mod}
 use Rattle.std.proofs.lemmas.List.{map-append, drop-drop, length_push}
-use Rattle.std.proofs.lemmas.List.Elements.{filter-append}
-use Rattle.std.proofs.ByRecursion.{All-push, All-weaker}
+use Rattle.std.proofs.lemmas.List.Elements.{filter-append, All-push, All-cons}
+use Rattle.std.proofs.lemmas.List.Folds.{Any-from_list_any, list_any_none}
 use Rattle.std.proofs.lemmas.Bool.{lt-ltb, lt-leb}
 use Rattle.std.proofs.lemmas.Bool.Decides.{nat_tests}
 use Rattle.congestion.specs.Control.{Control}
@@ -18,9 +17,9 @@ use Rattle.protocol.specs.SenderRules.{true_sum, after_send, after_advance, afte
 use Rattle.protocol.specs.History.{History, noted, segments, bytes, sum_before}
 use Rattle.protocol.specs.Duplicates.{starts_counted}
 use Rattle.protocol.proofs.Lists.{sum_push}
-use Rattle.protocol.proofs.Filters.{any-map, kept_map, sum_of-map, any_kept, any_gives, kept_kept, sum_split}
+use Rattle.protocol.proofs.Filters.{any-map, kept_map, sum_of-map, any_kept, kept_kept, sum_split}
 use Rattle.protocol.proofs.Steps.{Step, Found}
-use Rattle.protocol.proofs.Steps.Step.{refuses, sends, advances, counts, expires, orders, repeats, returns}
+use Rattle.protocol.proofs.Steps.Step.{sends, advances, counts}
 
 -- the claim of a segment, spent if its start was counted
 abbrev pub claim : List ℕ → Segment → Claim
@@ -45,10 +44,6 @@ bytes_push : (gs : List Segment) (g : Segment) → bytes (gs ++ (g ∷ [])) ≡ 
 bytes_push [] g = omega arith
 bytes_push (f ∷ gs) g = let rest = bytes_push gs g in omega arith
 
-not_member : (o : ℕ) (os : List ℕ) → All (λ p. p < o) os → member o os ≡ false
-not_member o [] below = refl
-not_member o (p ∷ os) below = let rest = not_member o os below.1 in grind (arith, nat_tests)
-
 spend_claims : (o : ℕ) (os : List ℕ) (gs : List Segment) → spend o (map (claim os) gs) ≡ map (claim (o ∷ os)) gs
 spend_claims o os [] = refl
 spend_claims o os (g ∷ gs) = ap (λ cs. claim (o ∷ os) g ∷ cs) (spend_claims o os gs)
@@ -58,36 +53,31 @@ module _ {C : Type 0} {ws : List ℕ} {s : State C} {gs : List Segment} {os : Li
   abbrev pending : List Segment
   pending = kept_by (ends_past s.proved) gs
 
-  every : (P : Segment → Type 0) → ((g : Segment) → Lies s.sent g → P g) → All P gs
-  every P from = All-weaker (Lies s.sent) P from gs t.lie
-
   -- the kept sum and the claims make the sum over all segments, for a test that all acknowledged ones pass
   sums : (p : Segment → Bool) → ((g : Segment) → Lies s.sent g → ends_by s.proved g ≡ true → p g ≡ true) →
       (s.settled + sum_of (on p) nonce s.claims) % 2 ^ 64 ≡ sum_of p (λ g. g.summed) gs % 2 ^ 64
   sums p wide =
       let claimed = ap (sum_of (on p) nonce) t.claims ∙ sum_of-map (on p) (claim os) nonce pending in
-      let whole = sum_split (ends_by s.proved) (ends_past s.proved) p p (λ g. g.summed) gs (every _ (λ g lies. let w = wide g lies in grind (arith, nat_tests))) in
+      let whole = sum_split (ends_by s.proved) (ends_past s.proved) p p (λ g. g.summed) gs (λ k d within. let lies = t.lie k d within in let w = wide (get_or gs k d) lies in grind (arith, nat_tests)) in
       rw (t.settled, claimed, mod-add-mod, whole) refl
 
   pub true_sum_is : (e : ℕ) → s.proved ≤ e → true_sum s e ≡ sum_before e gs
   true_sum_is e past = sums (begun_before e) (λ g lies by. grind (arith, nat_tests))
 
+  -- a test of the claims is one of all segments, if only those that are not acknowledged to the end can pass
+  pub any_claim : (p : Claim → Bool) (q : Segment → Bool) → ((g : Segment) → Lies s.sent g → (ends_past s.proved g && p (claim os g)) ≡ q g) → any p s.claims ≡ any q gs
+  any_claim p q same = ap (any p) t.claims ∙ any-map p (claim os) pending ∙ any_kept (ends_past s.proved) (λ g. p (claim os g)) q gs (λ k d within. same _ (t.lie k d within))
+
   -- the segment of a claim that an echo finds
   pub found_segment : (x o : ℕ) → Found s x o → any (λ g. starts_at o g && (echoed_past s.proved x g && not (member g.start os))) gs ≡ true
-  found_segment x o found =
-      let same = any_kept (ends_past s.proved) (λ g. p (claim os g)) _ gs (every _ (λ g lies. grind (arith, nat_tests))) in
-      sym (ap (any p) t.claims ∙ any-map p (claim os) pending ∙ same) ∙ found
-    where
-      p : Claim → Bool
-      p c = on (starts_at o) c && unspent s.proved x c
+  found_segment x o found = sym (any_claim (λ c. on (starts_at o) c && unspent s.proved x c) _ (λ g lies. grind (arith, nat_tests))) ∙ found
 
   -- it lies beyond the proved end, and was not counted before
   pub found_new : (x o : ℕ) → Found s x o → (o < s.sent) × (s.proved < o) × (member o os ≡ false)
-  found_new x o found = any_gives _ (Lies s.sent) gs t.lie (found_segment x o found) new
-    where
-      new : (g : Segment) → Lies s.sent g → (starts_at o g && (echoed_past s.proved x g && not (member g.start os))) ≡ true →
-          (o < s.sent) × (s.proved < o) × (member o os ≡ false)
-      new g lies passes = grind (arith, nat_tests)
+  found_new x o found =
+      let (k, g, within, at, passes) = Any-from_list_any _ gs (found_segment x o found) in
+      let lies = rw at at (t.lie k g within) in
+      grind (arith, nat_tests)
 
   -- what the table leaves out may change
   unmoved : (c : C) (d : ℕ) (b : Bool) → ClaimTable ws (record s { control = c; duplicates = d; due = b }) gs os
@@ -98,11 +88,11 @@ module _ {C : Type 0} {ws : List ℕ} {s : State C} {gs : List Segment} {os : Li
     sent = omega (arith, bytes_push gs g, t.sent);
     words = ap (drop 2) t.words ∙ drop-drop 2 (2 * length gs) ws ∙ ap (λ n. drop n ws) (omega (arith, length_push gs g));
     within = omega (arith, t.within);
-    lie = All-push (Lies (s.sent + g.length)) gs g (every _ (λ f lies. omega arith)) (omega arith);
-    seen = All-weaker (λ o. o < s.sent) _ (λ o below. omega arith) os t.seen;
+    lie = All-push (Lies (s.sent + g.length)) gs g (λ k d within. let lies = t.lie k d within in omega arith) (omega arith);
+    seen = λ k d within. let below = t.seen k d within in omega arith;
     claims =
         let unproved = lt-ltb s.proved (finish g) (omega (arith, t.within)) in
-        let fresh = not_member g.start os (rw here t.seen) in
+        let fresh = list_any_none (nat_eq g.start) os (λ k d within. let below = t.seen k d within in grind (arith, nat_tests)) in
         rw (t.claims, filter-append (ends_past s.proved) gs (g ∷ []), unproved, map-append, fresh) refl;
     settled = rw (sum_push (ends_by s.proved) (λ f. f.summed) gs g, lt-leb (finish g) s.proved (omega (arith, t.within)), add-zero) t.settled;
   }
@@ -126,7 +116,7 @@ module _ {C : Type 0} {ws : List ℕ} {s : State C} {gs : List Segment} {os : Li
     words = t.words;
     within = t.within;
     lie = t.lie;
-    seen = ((found_new x o found).0, t.seen);
+    seen = All-cons (λ p. p < s.sent) o os (found_new x o found).0 t.seen;
     claims = ap (spend o) t.claims ∙ spend_claims o os pending;
     settled = t.settled;
   }

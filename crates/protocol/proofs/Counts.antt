@@ -1,6 +1,5 @@
 -- How many elements of a list pass a test. Assumes nothing.
-use Rattle.std.proofs.Common.{◌≡◌, ℕ, ◌+◌, ◌≤◌, Bool, true, false, cond, not, ◌&&◌, List, [], ◌∷◌, refl, arith}
-use Rattle.std.specs.List.{AllByRecursion as All}
+use Rattle.std.proofs.Common.{◌≡◌, ℕ, ◌+◌, ◌≤◌, Bool, true, false, cond, not, ◌&&◌, suc, List, [], ◌∷◌, All, refl, arith}
 use Rattle.std.proofs.lemmas.Bool.{false≢true}
 use Rattle.protocol.specs.Lists.{any, sum_of, count, kept_by}
 
@@ -17,12 +16,18 @@ module _ {A : Type 0} where
 
   pub count_none : (p : A → Bool) (xs : List A) → All (λ x. p x ≡ false) xs → count p xs ≡ 0
   count_none p [] none = refl
-  count_none p (x ∷ xs) none = let rest = count_none p xs none.1 in grind arith
+  count_none p (x ∷ xs) none =
+      let rest = count_none p xs (λ k d within. none (suc k) d (omega arith)) in
+      let here = none 0 x (omega arith) in
+      grind arith
 
   -- a filter that keeps all that pass
   pub count_kept : (r p : A → Bool) (xs : List A) → All (λ x. p x ≡ true → r x ≡ true) xs → count p (kept_by r xs) ≡ count p xs
   count_kept r p [] within = refl
-  count_kept r p (x ∷ xs) within = let rest = count_kept r p xs within.1 in grind arith
+  count_kept r p (x ∷ xs) within =
+      let rest = count_kept r p xs (λ k d in_range. within (suc k) d (omega arith)) in
+      let here = within 0 x (omega arith) in
+      grind arith
 
   -- a sum in which v stands for n at each that passes r, of which there are none, or one
   module _ (p r : A → Bool) (n : A → ℕ) (v : ℕ) (within : (x : A) → r x ≡ true → p x ≡ true) where

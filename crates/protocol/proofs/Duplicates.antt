@@ -13,7 +13,7 @@ use Rattle.protocol.proofs.Lists.{sum_push}
 use Rattle.protocol.proofs.Filters.{any_wider}
 use Rattle.protocol.proofs.Counts.{count_wider, count_more}
 use Rattle.protocol.proofs.Steps.{Step, Found}
-use Rattle.protocol.proofs.Steps.Step.{refuses, sends, advances, counts, expires, orders, repeats, returns}
+use Rattle.protocol.proofs.Steps.Step.{sends, advances, counts, expires}
 use Rattle.protocol.proofs.ClaimTable.{ClaimTable, found_segment, found_new}
 
 -- it starts beyond e, and a duplicate was counted for it

@@ -1,7 +1,6 @@
 -- Filters, sums and tests of lists, one over the other. Assumes nothing.
-use Rattle.std.proofs.Common.{◌≡◌, ℕ, ◌+◌, Bool, true, false, cond, ◌&&◌, ◌||◌, List, [], ◌∷◌, map, refl, ap, arith}
-use Rattle.std.specs.List.{AllByRecursion as All}
-use Rattle.std.proofs.lemmas.Bool.{false≢true}
+use Rattle.std.proofs.Common.{◌≡◌, ℕ, ◌+◌, Bool, true, cond, ◌&&◌, ◌||◌, suc, List, [], ◌∷◌, map, All, refl, ap, arith}
+use Rattle.std.proofs.lemmas.List.Folds.{Any-from_list_any, list_any-from_Any}
 use Rattle.protocol.specs.Lists.{any, leads, sum_of, kept_by}
 
 -- through a map
@@ -26,20 +25,13 @@ module _ {A : Type 0} where
   -- a test of those that another test keeps
   pub any_kept : (r p q : A → Bool) (xs : List A) → All (λ x. (r x && p x) ≡ q x) xs → any p (kept_by r xs) ≡ any q xs
   any_kept r p q [] same = refl
-  any_kept r p q (x ∷ xs) same = let rest = any_kept r p q xs same.1 in grind arith
-
-  -- what follows from each that passes follows where one does
-  pub any_gives : {R : Type 0} (p : A → Bool) (Q : A → Type 0) (xs : List A) → All Q xs → any p xs ≡ true → ((x : A) → Q x → p x ≡ true → R) → R
-  any_gives p Q [] each some from = absurd (false≢true some)
-  any_gives {R} p Q (x ∷ xs) each some from = here (p x) refl some (λ rest. any_gives p Q xs each.1 rest from)
-    where
-      here : (b : Bool) → p x ≡ b → (b || any p xs) ≡ true → (any p xs ≡ true → R) → R
-      here true e found later = from x each.0 e
-      here false e found later = later found
+  any_kept r p q (x ∷ xs) same =
+      let rest = any_kept r p q xs (λ k d within. same (suc k) d (omega arith)) in
+      let here = same 0 x (omega arith) in
+      grind arith
 
   pub any_wider : (p q : A → Bool) → ((x : A) → p x ≡ true → q x ≡ true) → (xs : List A) → any p xs ≡ true → any q xs ≡ true
-  any_wider p q wider [] some = some
-  any_wider p q wider (x ∷ xs) some = let rest = any_wider p q wider xs in let w = wider x in grind arith
+  any_wider p q wider xs some = let (k, x, within, at, passes) = Any-from_list_any p xs some in list_any-from_Any q xs (k, x, within, at, wider x passes)
 
   pub kept_kept : (p q : A → Bool) → ((x : A) → q x ≡ true → p x ≡ true) → (xs : List A) → kept_by q (kept_by p xs) ≡ kept_by q xs
   kept_kept p q wider [] = refl
@@ -49,4 +41,7 @@ module _ {A : Type 0} where
   pub sum_split : (p r q t : A → Bool) (n : A → ℕ) (xs : List A) → All (λ x. cond (p x) (n x) 0 + cond (r x) (cond (q x) (n x) 0) 0 ≡ cond (t x) (n x) 0) xs →
       sum_of p n xs + sum_of q n (kept_by r xs) ≡ sum_of t n xs
   sum_split p r q t n [] each = refl
-  sum_split p r q t n (x ∷ xs) each = let rest = sum_split p r q t n xs each.1 in grind arith
+  sum_split p r q t n (x ∷ xs) each =
+      let rest = sum_split p r q t n xs (λ k d within. each (suc k) d (omega arith)) in
+      let here = each 0 x (omega arith) in
+      grind arith

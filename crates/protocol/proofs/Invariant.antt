@@ -1,13 +1,14 @@
 -- What ties a state to the history that led to it, and that every call keeps it. Assumes nothing.
-use Rattle.std.proofs.Common.{◌≡◌, ℕ, ◌+◌, ◌*◌, ◌≤◌, true, false, List, [], ◌∷◌, sym, refl, ap, mul-le-mul_left, arith}
+use Rattle.std.proofs.Common.{◌≡◌, ℕ, ◌+◌, ◌*◌, ◌<◌, ◌≤◌, true, false, List, [], ◌∷◌, sym, refl, ap, mul-le-mul_left, arith}
 use Rattle.std.proofs.lemmas.Bool.{false≢true}
+use Rattle.std.proofs.lemmas.List.Elements.{All-nil}
 use Rattle.std.proofs.lemmas.Bool.Decides.{nat_tests}
 use Rattle.fault.specs.Refusals.{Refusal}
 use Rattle.congestion.specs.Control.{Control, Lawful}
 use Rattle.protocol.specs.Segments.{starts_at}
 use Rattle.protocol.specs.Claims.{on}
 use Rattle.protocol.specs.Calls.{Call, State, Reply}
-use Rattle.protocol.specs.Calls.Call.{send, acknowledge, timeout, take, repeat, put_back}
+use Rattle.protocol.specs.Calls.Call.{acknowledge}
 use Rattle.protocol.specs.Calls.Answer.{refused}
 use Rattle.protocol.specs.SenderRules.{allowance, opened}
 use Rattle.protocol.specs.History.{History, noted, segments, EndToEnd, farthest}
@@ -16,8 +17,8 @@ use Rattle.protocol.specs.Duplicates.{starts_counted, beyond, duplicates_since, 
 use Rattle.protocol.specs.Runs.{state, history}
 use Rattle.protocol.proofs.Filters.{leads-map}
 use Rattle.protocol.proofs.Steps.{Step, Idle, step}
-use Rattle.protocol.proofs.Steps.Step.{refuses, sends, advances, counts, expires, orders, repeats, returns}
-use Rattle.protocol.proofs.ClaimTable.{ClaimTable, claim, true_sum_is, keeps_table}
+use Rattle.protocol.proofs.Steps.Step.{refuses, advances, counts, expires, orders, returns}
+use Rattle.protocol.proofs.ClaimTable.{ClaimTable, Lies, claim, true_sum_is, keeps_table}
 use Rattle.protocol.proofs.Signals.{Steered, keeps_steered}
 use Rattle.protocol.proofs.Duplicates.{Backed, keeps_backed, duplicates_bounded}
 use Rattle.protocol.proofs.Stream.{keeps_end_to_end}
@@ -57,7 +58,7 @@ module _ {C : Type 0} {k : Control C} {c : C} {ws : List ℕ} {s : State C} {h :
   keeps_due (advances past within same) = refl
   keeps_due (counts o true level found) = refl
   keeps_due (expires past) = refl
-  keeps_due orders = refl
+  keeps_due (orders due) = refl
   keeps_due (returns {o}) = rw (i.due, i.table.claims, leads-map (on (starts_at o)) (claim (starts_counted h)), i.proved) refl
   keeps_due other = i.due
 
@@ -82,7 +83,7 @@ module _ {C : Type 0} {k : Control C} {c : C} {ws : List ℕ} {s : State C} {h :
 module _ {C : Type 0} (k : Control C) (c : C) (laws : Lawful k) (ws : List ℕ) where
   at_opening : Follows k c ws (opened c ws) []
   at_opening = record {
-    table = record { sent = refl; words = refl; within = omega arith; lie = tt; seen = tt; claims = refl; settled = refl };
+    table = record { sent = refl; words = refl; within = omega arith; lie = All-nil (Lies 0); seen = All-nil (λ o. o < 0); claims = refl; settled = refl };
     joined = tt;
     proved = refl;
     steered = record { risen = omega arith; credited = sym (laws.nothing c); size = refl };

@@ -1,6 +1,5 @@
 -- Of the 2^64 values of a summed nonce, one gets the first acknowledgement past its segment's start accepted. Assumes nothing.
 use Rattle.std.proofs.Common.{◌≡◌, ℕ, ◌+◌, ◌-◌, ◌*◌, ◌%◌, ◌^◌, ◌<◌, ◌≤◌, false, cond, eqb, List, [], ◌∷◌, ◌++◌, length, set, sym, refl, ap, ◌∙◌, arith}
-use Rattle.std.proofs.ByRecursion.{All-weaker}
 use Rattle.std.proofs.lemmas.Bool.Decides.{nat_tests}
 use Rattle.congestion.specs.Control.{Control, Lawful}
 use Rattle.protocol.specs.declared.segment.Segment.{Segment}
@@ -19,7 +18,7 @@ use Rattle.protocol.specs.Promises.{reaches, One, Unreached, Passes}
 use Rattle.protocol.proofs.Filters.{sum_of-map}
 use Rattle.protocol.proofs.Counts.{sum_one, count_kept}
 use Rattle.protocol.proofs.Steps.{step}
-use Rattle.protocol.proofs.ClaimTable.{ClaimTable, Lies, claim}
+use Rattle.protocol.proofs.ClaimTable.{ClaimTable, claim}
 use Rattle.protocol.proofs.Invariant.{follows}
 use Rattle.protocol.proofs.Refusals.{refusal_is}
 use Rattle.protocol.proofs.Unreached.{Early, Held, unreached, earlier, drew, first_held, still_held}
@@ -94,8 +93,7 @@ module _ {C : Type 0} (k : Control C) (c : C) (laws : Lawful k) (ws : List ℕ) 
           let gs = segments (past (calls after)) in
           let t = tabled (calls after) in
           let there = held after quiet in
-          let kept = All-weaker (Lies here.sent) _ (λ f lies at. let u = there.unproved in grind (arith, nat_tests)) gs t.lie in
-          rw (t.claims, sum_of-map (on (starts_at g.start)) (claim (starts_counted (past (calls after))))) (count_kept (ends_past here.proved) (starts_at g.start) gs kept ∙ there.one)
+          rw (t.claims, sum_of-map (on (starts_at g.start)) (claim (starts_counted (past (calls after))))) (count_kept (ends_past here.proved) (starts_at g.start) gs (λ k d within at. let lies = t.lie k d within in let u = there.unproved in grind (arith, nat_tests)) ∙ there.one)
 
       -- the true sum without that nonce
       rest : ℕ

@@ -1,8 +1,7 @@
 -- The sender with another summed nonce in one of its claims: until an acknowledgement ends past that claim's start, nothing else differs. Assumes nothing.
-use Rattle.std.proofs.Common.{◌≡◌, ℕ, ◌+◌, ◌*◌, ◌<◌, ◌≤◌, Bool, true, false, cond, ◌||◌, eqb, ltb, List, [], ◌∷◌, map, length, get_or, drop, set, Some, None, Option, refl, ap, ◌∙◌, ⊎_elim, arith}
-use Rattle.std.specs.List.{AllByRecursion as All}
+use Rattle.std.proofs.Common.{◌≡◌, ℕ, ◌+◌, ◌*◌, ◌<◌, ◌≤◌, Bool, true, false, cond, ◌||◌, eqb, ltb, suc, List, [], ◌∷◌, map, length, get_or, drop, set, All, Some, None, Option, refl, ap, ◌∙◌, ⊎_elim, arith}
 use Rattle.std.proofs.lemmas.List.{length-map, length-drop, length-set, length_push, map-append, drop-drop, get_or-drop, get_or-set_same, get_or-set_other}
-use Rattle.std.proofs.ByRecursion.{All-weaker, All-map, all_kept_by}
+use Rattle.std.proofs.lemmas.List.Elements.{All-map, All-filter}
 use Rattle.std.proofs.lemmas.Bool.{lt-ltb, cases_lt}
 use Rattle.std.proofs.lemmas.Bool.Decides.{nat_tests}
 use Rattle.fault.specs.Refusals.{Refusal}
@@ -14,7 +13,7 @@ use Rattle.protocol.specs.Segments.{begun_before, ends_by, ends_past, starts_at,
 use Rattle.protocol.specs.Claims.{on, nonce, unspent, oldest, spend}
 use Rattle.protocol.specs.Checks.{first_refusal}
 use Rattle.protocol.specs.Calls.{Call, State, Reply, if_acknowledge}
-use Rattle.protocol.specs.Calls.Call.{send, acknowledge, timeout, take, repeat, put_back}
+use Rattle.protocol.specs.Calls.Call.{send, acknowledge, repeat, put_back}
 use Rattle.protocol.specs.Calls.Answer.{counted, lost}
 use Rattle.protocol.specs.SenderRules.{checks, after_advance, after_duplicate, acknowledged, accepted, concluded, reply}
 use Rattle.protocol.specs.History.{History, noted, segments}
@@ -43,7 +42,11 @@ module _ (o v : ℕ) where
   sum_renonced : (p : Claim → Bool) → Blind p → (cs : List Claim) → All (λ c. p c ≡ true → on (starts_at o) c ≡ false) cs →
       sum_of p nonce (map (renonced o v) cs) ≡ sum_of p nonce cs
   sum_renonced p blind [] apart = refl
-  sum_renonced p blind (c ∷ cs) apart = let rest = sum_renonced p blind cs apart.1 in let here = blind c in grind arith
+  sum_renonced p blind (c ∷ cs) apart =
+      let rest = sum_renonced p blind cs (λ k d within. apart (suc k) d (omega arith)) in
+      let first = apart 0 c (omega arith) in
+      let here = blind c in
+      grind arith
 
   oldest_renonced : (p : Claim → Bool) → Blind p → (cs : List Claim) → oldest p (map (renonced o v) cs) ≡ oldest p cs
   oldest_renonced p blind [] = refl
@@ -55,15 +58,13 @@ module _ (o v : ℕ) where
 
 module _ {C : Type 0} {ws : List ℕ} {s : State C} {gs : List Segment} {os : List ℕ} (t : ClaimTable ws s gs os) where
   claims_lie : All (λ c. Lies s.sent c.segment) s.claims
-  claims_lie = rw t.claims (All-map (λ c. Lies s.sent c.segment) (claim os) (kept_by (ends_past s.proved) gs) (all_kept_by (ends_past s.proved) (Lies s.sent) gs t.lie))
+  claims_lie = rw t.claims (All-map (λ c. Lies s.sent c.segment) (claim os) (kept_by (ends_past s.proved) gs) (All-filter (ends_past s.proved) (Lies s.sent) gs t.lie))
 
   module _ (k : Control C) (o v : ℕ) (vs : List ℕ) where
     -- a sum over claims that start before o
     same_sum : (p : Claim → Bool) → Blind o v p → ((c : Claim) → Lies s.sent c.segment → p c ≡ true → c.segment.start < o) →
         sum_of p nonce (map (renonced o v) s.claims) ≡ sum_of p nonce s.claims
-    same_sum p blind before =
-        let apart = All-weaker (λ c. Lies s.sent c.segment) _ (λ c lies passes. let less = before c lies passes in grind (arith, nat_tests)) s.claims claims_lie in
-        sum_renonced o v p blind s.claims apart
+    same_sum p blind before = sum_renonced o v p blind s.claims (λ k d within passes. let less = before _ (claims_lie k d within) passes in grind (arith, nat_tests))
 
     same_checks : (e m x : ℕ) → e ≤ o → first_refusal (checks k (other o v vs s) (acknowledge e m x)) ≡ first_refusal (checks k s (acknowledge e m x))
     same_checks e m x upto =

@@ -1,24 +1,20 @@
 -- When a repeat is due, which segment an order names, and what a repeat answers. Assumes nothing.
-use Rattle.std.proofs.Common.{◌≡◌, ℕ, Bool, true, false, List, [], ◌∷◌, map, Some, None, Option, sym, refl, ap, ◌∙◌, subst, arith}
-use Rattle.std.specs.List.{ContainsAt as Has, AllByRecursion as All}
-use Rattle.std.proofs.ByRecursion.{All-map, all_has_itself}
+use Rattle.std.proofs.Common.{◌≡◌, ℕ, Bool, true, false, List, [], ◌∷◌, map, Contains, refl, arith}
+use Rattle.std.proofs.lemmas.List.Folds.{list_any-append}
+use Rattle.std.proofs.lemmas.List.Elements.{Contains-append_right}
 use Rattle.std.proofs.lemmas.Bool.{false≢true, cond_both}
 use Rattle.std.proofs.lemmas.Bool.Decides.{nat_tests}
-use Rattle.fault.specs.Refusals.{Refusal}
 use Rattle.congestion.specs.Control.{Control}
 use Rattle.protocol.specs.declared.segment.Segment.{Segment}
 use Rattle.protocol.specs.declared.segment.Claim.{Claim}
 use Rattle.protocol.specs.Lists.{any, leads, kept_by}
 use Rattle.protocol.specs.Segments.{starts_at, ends_past}
 use Rattle.protocol.specs.Claims.{on, oldest, segment_at}
-use Rattle.protocol.specs.Checks.{first_refusal}
 use Rattle.protocol.specs.Calls.{Call, State, Reply}
 use Rattle.protocol.specs.Calls.Call.{take, repeat}
 use Rattle.protocol.specs.Calls.Answer.{ordered, repeated}
-use Rattle.protocol.specs.SenderRules.{checks, concluded, reply}
 use Rattle.protocol.specs.History.{History, noted, segments, EndToEnd}
 use Rattle.protocol.specs.Duplicates.{starts_counted}
-use Rattle.protocol.proofs.Lists.{any_push}
 use Rattle.protocol.proofs.Filters.{leads-map, any_wider}
 use Rattle.protocol.proofs.Steps.{Step, Found}
 use Rattle.protocol.proofs.Steps.Step.{refuses, sends, advances, counts, expires, orders, repeats, returns}
@@ -38,58 +34,45 @@ module _ {C : Type 0} {ws : List ℕ} {s : State C} (h : History) (t : ClaimTabl
   found_outstanding x o found = any_wider _ (ends_past s.proved) (λ g passes. grind (arith, nat_tests)) (segments h) (found_segment t x o found)
 
   pub keeps_waiting : {k : Control C} {x : Call} {r : Reply C} → Step k s x r → Waiting s h → Waiting r.state (noted x r.answer h)
-  keeps_waiting (sends some enough) waiting = λ due. let before = waiting due in rw any_push (grind arith)
+  keeps_waiting (sends some enough) waiting = λ due. let before = waiting due in rw list_any-append (grind arith)
   keeps_waiting (advances past within same) waiting = λ due. absurd (false≢true due)
   keeps_waiting (counts {x} o true level found) waiting = λ due. found_outstanding x o found
   keeps_waiting (counts {x} o false level found) waiting = λ due. found_outstanding x o found
   keeps_waiting (expires past) waiting = λ due. one_past s.proved 0 (segments h) joined (omega arith) (omega (arith, t.sent))
-  keeps_waiting orders waiting = λ due. absurd (false≢true due)
+  keeps_waiting (orders due) waiting = λ again. absurd (false≢true again)
   keeps_waiting (returns {o}) waiting = λ due.
-      let oldest_is : leads (on (starts_at o)) s.claims ≡ leads (starts_at o) (kept_by (ends_past s.proved) (segments h)) =
-      ap (leads (on (starts_at o))) t.claims ∙ leads-map (on (starts_at o)) (claim (starts_counted h)) _ in
+      let either = rw (t.claims, leads-map (on (starts_at o)) (claim (starts_counted h))) at due in
       let again = kept_some (starts_at o) (ends_past s.proved) (segments h) in
       grind arith
   keeps_waiting other waiting = waiting
-
-module _ {C : Type 0} (k : Control C) {ws : List ℕ} {s : State C} {gs : List Segment} {os : List ℕ} (t : ClaimTable ws s gs os) where
-  abbrev pending : List Segment
-  pending = kept_by (ends_past s.proved) gs
-
-  first_leads : (r : Segment → Bool) (fs : List Segment) → any r fs ≡ true → leads (starts_at (oldest (λ c. true) (map (claim os) (kept_by r fs)))) (kept_by r fs) ≡ true
-  first_leads r [] some = absurd (false≢true some)
-  first_leads r (f ∷ fs) some = let rest = first_leads r fs in grind (arith, nat_tests)
-
-  -- an order names the oldest
-  pub order_is : (s.due ≡ true → any (ends_past s.proved) gs ≡ true) → (o : ℕ) → (reply k s take).answer ≡ ordered o → leads (starts_at o) pending ≡ true
-  order_is waiting o is = go (first_refusal (checks k s take)) refl is
-    where
-      go : (f : Option Refusal) → first_refusal (checks k s take) ≡ f → (concluded k s take f).answer ≡ ordered o → leads (starts_at o) pending ≡ true
-      go None none is =
-          let due : s.due ≡ true = grind arith in
-          let same : oldest (λ c. true) (map (claim os) pending) ≡ o = rw (← t.claims) (cc) in
-          subst (λ q. leads (starts_at q) pending ≡ true) same (first_leads (ends_past s.proved) gs (waiting due))
-      go (Some f) some is = absurd (grind arith)
-
--- what holds of each claim's segment holds of the one that is found
-claim_at : (P : Segment → Type 0) (o : ℕ) (cs : List Claim) → All (λ d. P d.segment) cs → any (on (starts_at o)) cs ≡ true → P (segment_at o cs)
-claim_at P o [] each some = absurd (false≢true some)
-claim_at P o (d ∷ cs) each some = cond_both (on (starts_at o) d) _ _ P (λ at. each.0) (λ off. claim_at P o cs each.1 (grind arith))
 
 starts_there : (o : ℕ) (cs : List Claim) → (segment_at o cs).start ≡ o
 starts_there o [] = refl
 starts_there o (d ∷ cs) = let rest = starts_there o cs in grind (arith, nat_tests)
 
-module _ {C : Type 0} (k : Control C) {ws : List ℕ} {s : State C} {gs : List Segment} {os : List ℕ} (t : ClaimTable ws s gs os) where
-  every_claim : All (λ d. Has (kept_by (ends_past s.proved) gs) d.segment) s.claims
-  every_claim = rw t.claims (All-map (λ d. Has (kept_by (ends_past s.proved) gs) d.segment) (claim os) _ (all_has_itself _))
+module _ (os : List ℕ) where
+  -- the oldest claim is that of the first segment
+  first_leads : (r : Segment → Bool) (fs : List Segment) → any r fs ≡ true → leads (starts_at (oldest (λ c. true) (map (claim os) (kept_by r fs)))) (kept_by r fs) ≡ true
+  first_leads r [] some = absurd (false≢true some)
+  first_leads r (f ∷ fs) some = let rest = first_leads r fs in grind (arith, nat_tests)
+
+  -- a claim that is found is that of one of the segments
+  segment_found : (o : ℕ) (fs : List Segment) → any (on (starts_at o)) (map (claim os) fs) ≡ true → Contains fs (segment_at o (map (claim os) fs))
+  segment_found o [] some = absurd (false≢true some)
+  segment_found o (f ∷ fs) some =
+      cond_both (starts_at o f) _ _ (Contains (f ∷ fs)) (λ at. (0, omega arith, refl)) (λ off. Contains-append_right (f ∷ []) fs _ (segment_found o fs (grind arith)))
+
+module _ {C : Type 0} {k : Control C} {ws : List ℕ} {s : State C} {gs : List Segment} {os : List ℕ} (t : ClaimTable ws s gs os) where
+  -- an order names the oldest
+  pub order_is : (s.due ≡ true → any (ends_past s.proved) gs ≡ true) → {r : Reply C} → Step k s take r → (o : ℕ) → r.answer ≡ ordered o → leads (starts_at o) (kept_by (ends_past s.proved) gs) ≡ true
+  order_is waiting (refuses idle) o is = grind arith
+  order_is waiting (orders due) o is =
+      let same : oldest (λ c. true) (map (claim os) (kept_by (ends_past s.proved) gs)) ≡ o = rw (← t.claims) (cc) in
+      rw same at (first_leads os (ends_past s.proved) gs (waiting due))
 
   -- a repeat answers an outstanding segment
-  pub repeat_is : (o : ℕ) (g : Segment) → (reply k s (repeat o)).answer ≡ repeated g → Has (kept_by (ends_past s.proved) gs) g × (g.start ≡ o)
-  repeat_is o g is = go (first_refusal (checks k s (repeat o))) refl is
-    where
-      go : (f : Option Refusal) → first_refusal (checks k s (repeat o)) ≡ f → (concluded k s (repeat o) f).answer ≡ repeated g → Has (kept_by (ends_past s.proved) gs) g × (g.start ≡ o)
-      go None none is =
-          let same : segment_at o s.claims ≡ g = cc in
-          let found = claim_at (Has (kept_by (ends_past s.proved) gs)) o s.claims every_claim (grind (arith, nat_tests)) in
-          (subst (Has (kept_by (ends_past s.proved) gs)) same found, sym (ap (λ f. f.start) same) ∙ starts_there o s.claims)
-      go (Some f) some is = absurd (grind arith)
+  pub repeat_is : {o : ℕ} {r : Reply C} → Step k s (repeat o) r → (g : Segment) → r.answer ≡ repeated g → Contains (kept_by (ends_past s.proved) gs) g × (g.start ≡ o)
+  repeat_is (refuses idle) g is = absurd (grind arith)
+  repeat_is (repeats {o} some) g is =
+      let same : segment_at o (map (claim os) (kept_by (ends_past s.proved) gs)) ≡ g = rw (← t.claims) (cc) in
+      rw (← same) (segment_found os o _ (rw t.claims at some), starts_there o _)

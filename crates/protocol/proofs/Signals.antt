@@ -1,6 +1,6 @@
 -- Where its signals and the proved end leave a lawful controller: the only place that the laws are used. Assumes nothing.
-use Rattle.std.proofs.Common.{◌≡◌, ℕ, ◌+◌, ◌-◌, ◌≤◌, true, false, List, ◌∷◌, ap, ◌∙◌, arith}
-use native.Mathlib.Nat.{sub_self}
+use Rattle.std.proofs.Common.{◌≡◌, ℕ, ◌+◌, ◌-◌, ◌≤◌, true, List, ◌∷◌, ap, ◌∙◌, arith}
+use Rattle.std.proofs.Math.Nat.{sub_self}
 use Rattle.congestion.specs.Control.{Control, Lawful}
 use Rattle.protocol.specs.Calls.{Call, State, Reply}
 use Rattle.protocol.specs.SenderRules.{in_flight}
@@ -8,7 +8,7 @@ use Rattle.protocol.specs.History.{History, noted, segments, bytes, farthest}
 use Rattle.protocol.specs.Signals.{Kind, Signal, signals, proved_then, signalled, after_signals, credited_once}
 use Rattle.protocol.specs.Signals.Kind.{loss, expiry}
 use Rattle.protocol.proofs.Steps.{Step}
-use Rattle.protocol.proofs.Steps.Step.{refuses, sends, advances, counts, expires, orders, repeats, returns}
+use Rattle.protocol.proofs.Steps.Step.{advances, counts, expires}
 
 -- a controller that started as c stands as d, with a single credit since the last of the signals given
 pub record Steered {C : Type 0} (k : Control C) (c d : C) (proved : ℕ) (given : List Signal) : Type 0 where

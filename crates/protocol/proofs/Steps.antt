@@ -1,6 +1,5 @@
 -- What the reply to a call may be, with what its checks have told by then: all later lemmas go by these cases. Assumes nothing.
 use Rattle.std.proofs.Common.{◌≡◌, ℕ, ◌<◌, ◌≤◌, Bool, true, false, cond, ◌&&◌, ◌||◌, eqb, ltb, List, [], ◌∷◌, length, Some, None, Option, refl, arith}
-use Rattle.std.specs.List.{AllByRecursion as All}
 use Rattle.std.proofs.lemmas.Bool.Decides.{nat_tests}
 use Rattle.fault.specs.Refusals.{Refusal}
 use Rattle.congestion.specs.Control.{Control}
@@ -8,7 +7,7 @@ use Rattle.protocol.specs.declared.segment.Claim.{Claim}
 use Rattle.protocol.specs.Lists.{any, leads}
 use Rattle.protocol.specs.Segments.{starts_at}
 use Rattle.protocol.specs.Claims.{on, unspent, oldest, segment_at}
-use Rattle.protocol.specs.Checks.{Check, first_refusal}
+use Rattle.protocol.specs.Checks.{first_refusal}
 use Rattle.protocol.specs.Calls.{Call, State, Reply, if_acknowledge}
 use Rattle.protocol.specs.Calls.Call.{send, acknowledge, timeout, take, repeat, put_back}
 use Rattle.protocol.specs.Calls.Answer.{sent, advanced, counted, lost, expired, ordered, repeated, returned, refused}
@@ -30,13 +29,9 @@ module _ {C : Type 0} where
     counts : {e m x : ℕ} (o : ℕ) (third : Bool) → e ≡ s.proved → Found s x o →
         Step k s (acknowledge e m x) (record { answer = cond third (lost o) (counted o); state = after_duplicate k s o third })
     expires : s.proved < s.sent → Step k s timeout (record { answer = expired; state = after_timeout k s })
-    orders : {o : ℕ} → Step k s take (record { answer = ordered o; state = with_due s false })
-    repeats : {o : ℕ} → Step k s (repeat o) (record { answer = repeated (segment_at o s.claims); state = s })
+    orders : s.due ≡ true → Step k s take (record { answer = ordered (oldest (λ c. true) s.claims); state = with_due s false })
+    repeats : {o : ℕ} → any (on (starts_at o)) s.claims ≡ true → Step k s (repeat o) (record { answer = repeated (segment_at o s.claims); state = s })
     returns : {o : ℕ} → Step k s (put_back o) (record { answer = returned o; state = with_due s (s.due || leads (on (starts_at o)) s.claims) })
-
-passed : (cs : List Check) → first_refusal cs ≡ None → All (λ c. c.test ≡ false) cs
-passed [] none = tt
-passed (c ∷ cs) none = let rest = passed cs in grind arith
 
 oldest_passes : (p : Claim → Bool) (cs : List Claim) → any p cs ≡ true → any (λ c. on (starts_at (oldest p cs)) c && p c) cs ≡ true
 oldest_passes p [] some = some
@@ -47,23 +42,23 @@ module _ {C : Type 0} (k : Control C) (s : State C) where
   idle (acknowledge e m x) some = λ within same. grind (arith, nat_tests)
   idle other some = tt
 
-  accepts : (x : Call) → All (λ c. c.test ≡ false) (checks k s x) → Step k s x (accepted k s x)
-  accepts (send l) pass = sends (grind (arith, nat_tests)) (grind (arith, nat_tests))
-  accepts (acknowledge e m x) pass = go (ltb s.proved e) refl
+  accepts : (x : Call) → first_refusal (checks k s x) ≡ None → Step k s x (accepted k s x)
+  accepts (send l) none = sends (grind (arith, nat_tests)) (grind (arith, nat_tests))
+  accepts (acknowledge e m x) none = go (ltb s.proved e) refl
     where
       go : (past : Bool) → ltb s.proved e ≡ past → Step k s (acknowledge e m x) (acknowledged k s e x past)
       go true past = advances (grind (arith, nat_tests)) (grind (arith, nat_tests)) (grind (arith, nat_tests))
       go false past =
           let level : e ≡ s.proved = grind (arith, nat_tests) in
           counts (oldest (unspent s.proved x) s.claims) (eqb s.duplicates 2) level (oldest_passes (unspent s.proved x) s.claims (grind (arith, nat_tests)))
-  accepts timeout pass = expires (grind (arith, nat_tests))
-  accepts take pass = orders
-  accepts (repeat o) pass = repeats
-  accepts (put_back o) pass = returns
+  accepts timeout none = expires (grind (arith, nat_tests))
+  accepts take none = orders (grind arith)
+  accepts (repeat o) none = repeats (grind arith)
+  accepts (put_back o) none = returns
 
   pub step : (x : Call) → Step k s x (reply k s x)
   step x = go (first_refusal (checks k s x)) refl
     where
       go : (f : Option Refusal) → first_refusal (checks k s x) ≡ f → Step k s x (concluded k s x f)
-      go None none = accepts x (passed (checks k s x) none)
+      go None none = accepts x none
       go (Some f) some = refuses (idle x some)

@@ -1,5 +1,5 @@
 -- The segments of a sender lie end to end from the first byte on. Assumes nothing.
-use Rattle.std.proofs.Common.{◌≡◌, ℕ, ◌+◌, ◌<◌, ◌≤◌, true, false, List, [], ◌∷◌, ◌++◌, arith}
+use Rattle.std.proofs.Common.{◌≡◌, ℕ, ◌+◌, ◌<◌, ◌≤◌, true, List, [], ◌∷◌, ◌++◌, arith}
 use Rattle.std.proofs.lemmas.Bool.Decides.{nat_tests}
 use Rattle.congestion.specs.Control.{Control}
 use Rattle.protocol.specs.declared.segment.Segment.{Segment}
@@ -8,7 +8,7 @@ use Rattle.protocol.specs.Segments.{finish, ends_past}
 use Rattle.protocol.specs.Calls.{Call, State, Reply}
 use Rattle.protocol.specs.History.{History, noted, segments, bytes, EndToEnd}
 use Rattle.protocol.proofs.Steps.{Step}
-use Rattle.protocol.proofs.Steps.Step.{refuses, sends, advances, counts, expires, orders, repeats, returns}
+use Rattle.protocol.proofs.Steps.Step.{sends, counts}
 
 end_to_end_push : (o : ℕ) (gs : List Segment) (g : Segment) → EndToEnd o gs → g.start ≡ o + bytes gs → 0 < g.length → EndToEnd o (gs ++ (g ∷ []))
 end_to_end_push o [] g joined here some = (omega arith, some, tt)

@@ -1,14 +1,13 @@
 -- A segment from its sending until an acknowledgement ends past its start. Assumes nothing.
 use Rattle.std.proofs.Common.{◌≡◌, ℕ, ◌*◌, ◌<◌, ◌≤◌, true, false, eqb, List, length, refl, ap, ◌∙◌, arith}
 use Rattle.std.proofs.lemmas.List.{length_push, length-drop}
-use Rattle.std.proofs.ByRecursion.{All-weaker}
 use Rattle.std.proofs.lemmas.Bool.Decides.{nat_tests}
 use Rattle.congestion.specs.Control.{Control}
 use Rattle.protocol.specs.declared.segment.Segment.{Segment}
 use Rattle.protocol.specs.Lists.{count}
 use Rattle.protocol.specs.Segments.{starts_at}
 use Rattle.protocol.specs.Calls.{Call, State, Reply}
-use Rattle.protocol.specs.Calls.Call.{send, acknowledge, timeout, take, repeat, put_back}
+use Rattle.protocol.specs.Calls.Call.{send, acknowledge}
 use Rattle.protocol.specs.Calls.Answer.{sent}
 use Rattle.protocol.specs.SenderRules.{next}
 use Rattle.protocol.specs.History.{History, noted, segments, bytes}
@@ -17,8 +16,8 @@ use Rattle.protocol.specs.Promises.{reaches}
 use Rattle.protocol.proofs.Lists.{sum_push}
 use Rattle.protocol.proofs.Counts.{count_none}
 use Rattle.protocol.proofs.Steps.{Step}
-use Rattle.protocol.proofs.Steps.Step.{refuses, sends, advances, counts, expires, orders, repeats, returns}
-use Rattle.protocol.proofs.ClaimTable.{ClaimTable, Lies}
+use Rattle.protocol.proofs.Steps.Step.{refuses, sends, advances, counts}
+use Rattle.protocol.proofs.ClaimTable.{ClaimTable}
 
 -- an end past the bytes sent reaches nothing
 pub unreached : (o : ℕ) (h : History) (x : Call) → bytes (segments h) ≤ o → reaches o x h ≡ false
@@ -54,7 +53,7 @@ module _ {C : Type 0} {k : Control C} {s : State C} (h : History) where
         Held o N (segments (noted (send l) r.answer h)) r.state.sent r.state.proved
     first_held (refuses idle) is at all = grind arith
     first_held (sends {l} some enough) is {o} at all =
-        let none = count_none (starts_at o) (segments h) (All-weaker (Lies s.sent) _ (λ f lies. grind (arith, nat_tests)) (segments h) t.lie) in
+        let none = count_none (starts_at o) (segments h) (λ k d within. let lies = t.lie k d within in grind (arith, nat_tests)) in
         record {
           later = omega (arith, length_push (segments h) (next s l));
           beyond = omega arith;

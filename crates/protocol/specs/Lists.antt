@@ -4,12 +4,12 @@
 --     member o xs      the number o stands in xs
 --     sum_of p f xs, count p xs      the sum of f over those that pass p; how many pass p
 --     kept_by p xs      those that pass p (std)
-use Rattle.std.specs.Prelude.{ℕ, ◌+◌, Bool, false, cond, ◌||◌, List, [], ◌∷◌, nat_eq}
+use Rattle.std.specs.Prelude.{ℕ, ◌+◌, Bool, false, cond, List, [], ◌∷◌, nat_eq}
+use Rattle.std.specs.List.{list_any}
 pub use Rattle.std.specs.List.{filter as kept_by}
 
 abbrev pub any : {A : Type 0} → (A → Bool) → List A → Bool
-any p [] = false
-any p (x ∷ xs) = p x || any p xs
+any p xs = list_any p xs
 
 abbrev pub leads : {A : Type 0} → (A → Bool) → List A → Bool
 leads p [] = false

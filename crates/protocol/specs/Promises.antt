@@ -1,6 +1,5 @@
 -- What every list of calls on a new sender adds up to. Assumes nothing.
-use Rattle.std.specs.Prelude.{◌≡◌, ℕ, ◌+◌, ◌*◌, ◌^◌, ◌<◌, ◌≤◌, Bool, true, false, cond, ◌&&◌, List, [], ◌∷◌, ◌++◌, length, Some, None, ◌==◌, nat_le, nat_lt, slice_set}
-use Rattle.std.specs.List.{ContainsAt as Has}
+use Rattle.std.specs.Prelude.{◌≡◌, ℕ, ◌+◌, ◌*◌, ◌^◌, ◌<◌, ◌≤◌, Bool, true, false, cond, ◌&&◌, List, [], ◌∷◌, ◌++◌, length, Some, None, ◌==◌, nat_le, nat_lt, slice_set, Contains}
 use Rattle.fault.specs.Refusals.{Refusal}
 use Rattle.congestion.specs.Control.{Control}
 use Rattle.protocol.specs.declared.segment.Segment.{Segment}
@@ -87,7 +86,7 @@ module _ {C : Type 0} (k : Control C) (s : State C) where
     pub orders_the_oldest : (calls : List Call) (o : ℕ) → answer k s calls take ≡ ordered o → leads (starts_at o) (outstanding (history k s calls)) ≡ true
     -- A repeat answers the outstanding segment that its order names, as it was sent
     pub repeats_as_sent : (calls : List Call) (o : ℕ) (g : Segment) → answer k s calls (repeat o) ≡ repeated g →
-        Has (outstanding (history k s calls)) g × (g.start ≡ o)
+        Contains (outstanding (history k s calls)) g × (g.start ≡ o)
     -- One value: take any segment g that a send answered, and the first acknowledgement after it that ends past g's start and within the
     -- bytes sent. Of the 2^64 values of g's summed nonce, all else equal, exactly one gets that acknowledgement accepted
     pub one_value : (before after : List Call) (l e m x : ℕ) (g : Segment) →
