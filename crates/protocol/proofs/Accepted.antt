@@ -21,13 +21,10 @@ use Rattle.protocol.proofs.Invariant.{Follows}
 use Rattle.protocol.proofs.Refusals.{accepted_is}
 
 -- the oldest claim that passes is that of the oldest segment that does
-oldest_kept : (os : List ℕ) (p : Claim → Bool) (r q : Segment → Bool) (gs : List Segment) → All (λ g. (r g && p (claim os g)) ≡ q g) gs →
-    oldest p (map (claim os) (kept_by r gs)) ≡ oldest_start q gs
-oldest_kept os p r q [] same = refl
-oldest_kept os p r q (g ∷ gs) same =
-    let rest = oldest_kept os p r q gs (λ k d within. same (suc k) d (omega arith)) in
-    let here = same 0 g (omega arith) in
-    grind arith
+oldest_kept : (os : List ℕ) (p : Claim → Bool) (r : Segment → Bool) → ((g : Segment) → p (claim os g) ≡ true → r g ≡ true) → (gs : List Segment) →
+    oldest p (map (claim os) (kept_by r gs)) ≡ oldest_start (λ g. p (claim os g)) gs
+oldest_kept os p r wider [] = refl
+oldest_kept os p r wider (g ∷ gs) = let rest = oldest_kept os p r wider gs in let w = wider g in grind arith
 
 -- the answer to a duplicate for the segment at o, and whether it is the third
 abbrev duplicate_answer : Bool → ℕ → Answer
@@ -51,8 +48,7 @@ module _ {C : Type 0} {k : Control C} {c : C} {ws : List ℕ} {s : State C} {h :
     advanced_so past = acknowledged_so true (grind (arith, nat_tests))
 
     oldest_is : oldest (unspent s.proved x) s.claims ≡ oldest_start (uncounted h x) (segments h)
-    oldest_is =
-        ap (oldest (unspent s.proved x)) i.table.claims ∙ oldest_kept (starts_counted h) (unspent s.proved x) (ends_past s.proved) (uncounted h x) (segments h) (λ k d within. let lies = i.table.lie k d within in grind (arith, nat_tests, i.proved))
+    oldest_is = rw (i.table.claims, oldest_kept (starts_counted h) (unspent s.proved x) (ends_past s.proved) (λ g passes. grind (arith, nat_tests)), i.proved) refl
 
     module _ (level : e ≡ farthest h) where
       duplicate_so : (reply k s (acknowledge e m x)).answer ≡ duplicate_answer (eqb (duplicates_since h) 2) (oldest_start (uncounted h x) (segments h))

@@ -3,6 +3,7 @@ use Rattle.std.proofs.Common.{◌≡◌, ℕ, ◌+◌, ◌*◌, ◌%◌, ◌^◌
 use Rattle.std.proofs.Math.Nat.{mod-add-mod}
 use Rattle.std.proofs.lemmas.List.{map-append, drop-drop, length_push}
 use Rattle.std.proofs.lemmas.List.Elements.{filter-append, All-push, All-cons}
+use Rattle.std.proofs.lemmas.Map.Views.{any-filter_same}
 use Rattle.std.proofs.lemmas.List.Folds.{Any-from_list_any, list_any_none}
 use Rattle.std.proofs.lemmas.Bool.{lt-ltb, lt-leb}
 use Rattle.std.proofs.lemmas.Bool.Decides.{nat_tests}
@@ -17,7 +18,7 @@ use Rattle.protocol.specs.SenderRules.{true_sum, after_send, after_advance, afte
 use Rattle.protocol.specs.History.{History, noted, segments, bytes, sum_before}
 use Rattle.protocol.specs.Duplicates.{starts_counted}
 use Rattle.protocol.proofs.Lists.{sum_push}
-use Rattle.protocol.proofs.Filters.{any-map, kept_map, sum_of-map, any_kept, kept_kept, sum_split}
+use Rattle.protocol.proofs.Filters.{any-map, kept_map, sum_of-map, kept_kept, sum_split}
 use Rattle.protocol.proofs.Steps.{Step, Found}
 use Rattle.protocol.proofs.Steps.Step.{sends, advances, counts}
 
@@ -58,19 +59,19 @@ module _ {C : Type 0} {ws : List ℕ} {s : State C} {gs : List Segment} {os : Li
       (s.settled + sum_of (on p) nonce s.claims) % 2 ^ 64 ≡ sum_of p (λ g. g.summed) gs % 2 ^ 64
   sums p wide =
       let claimed = ap (sum_of (on p) nonce) t.claims ∙ sum_of-map (on p) (claim os) nonce pending in
-      let whole = sum_split (ends_by s.proved) (ends_past s.proved) p p (λ g. g.summed) gs (λ k d within. let lies = t.lie k d within in let w = wide (get_or gs k d) lies in grind (arith, nat_tests)) in
+      let whole = sum_split (ends_by s.proved) p (ends_past s.proved) (λ g. g.summed) gs (λ g. grind (arith, nat_tests)) (λ k d within. wide (get_or gs k d) (t.lie k d within)) in
       rw (t.settled, claimed, mod-add-mod, whole) refl
 
   pub true_sum_is : (e : ℕ) → s.proved ≤ e → true_sum s e ≡ sum_before e gs
   true_sum_is e past = sums (begun_before e) (λ g lies by. grind (arith, nat_tests))
 
   -- a test of the claims is one of all segments, if only those that are not acknowledged to the end can pass
-  pub any_claim : (p : Claim → Bool) (q : Segment → Bool) → ((g : Segment) → Lies s.sent g → (ends_past s.proved g && p (claim os g)) ≡ q g) → any p s.claims ≡ any q gs
-  any_claim p q same = ap (any p) t.claims ∙ any-map p (claim os) pending ∙ any_kept (ends_past s.proved) (λ g. p (claim os g)) q gs (λ k d within. same _ (t.lie k d within))
+  pub any_claim : (p : Claim → Bool) → ((g : Segment) → p (claim os g) ≡ true → ends_past s.proved g ≡ true) → any p s.claims ≡ any (λ g. p (claim os g)) gs
+  any_claim p past = rw (t.claims, any-map p (claim os)) (any-filter_same (λ g. p (claim os g)) (ends_past s.proved) true past gs)
 
   -- the segment of a claim that an echo finds
   pub found_segment : (x o : ℕ) → Found s x o → any (λ g. starts_at o g && (echoed_past s.proved x g && not (member g.start os))) gs ≡ true
-  found_segment x o found = sym (any_claim (λ c. on (starts_at o) c && unspent s.proved x c) _ (λ g lies. grind (arith, nat_tests))) ∙ found
+  found_segment x o found = sym (any_claim (λ c. on (starts_at o) c && unspent s.proved x c) (λ g passes. grind (arith, nat_tests))) ∙ found
 
   -- it lies beyond the proved end, and was not counted before
   pub found_new : (x o : ℕ) → Found s x o → (o < s.sent) × (s.proved < o) × (member o os ≡ false)

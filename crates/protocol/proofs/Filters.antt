@@ -1,5 +1,5 @@
 -- Filters, sums and tests of lists, one over the other. Assumes nothing.
-use Rattle.std.proofs.Common.{◌≡◌, ℕ, ◌+◌, Bool, true, cond, ◌&&◌, ◌||◌, suc, List, [], ◌∷◌, map, All, refl, ap, arith}
+use Rattle.std.proofs.Common.{◌≡◌, ℕ, ◌+◌, Bool, true, cond, not, ◌||◌, suc, List, [], ◌∷◌, map, All, refl, ap, arith}
 use Rattle.std.proofs.lemmas.List.Folds.{Any-from_list_any, list_any-from_Any}
 use Rattle.protocol.specs.Lists.{any, leads, sum_of, kept_by}
 
@@ -22,14 +22,6 @@ module _ {A B : Type 0} (p : B → Bool) (f : A → B) where
   sum_of-map n (x ∷ xs) = ap (λ m. cond (p (f x)) (n (f x)) 0 + m) (sum_of-map n xs)
 
 module _ {A : Type 0} where
-  -- a test of those that another test keeps
-  pub any_kept : (r p q : A → Bool) (xs : List A) → All (λ x. (r x && p x) ≡ q x) xs → any p (kept_by r xs) ≡ any q xs
-  any_kept r p q [] same = refl
-  any_kept r p q (x ∷ xs) same =
-      let rest = any_kept r p q xs (λ k d within. same (suc k) d (omega arith)) in
-      let here = same 0 x (omega arith) in
-      grind arith
-
   pub any_wider : (p q : A → Bool) → ((x : A) → p x ≡ true → q x ≡ true) → (xs : List A) → any p xs ≡ true → any q xs ≡ true
   any_wider p q wider xs some = let (k, x, within, at, passes) = Any-from_list_any p xs some in list_any-from_Any q xs (k, x, within, at, wider x passes)
 
@@ -37,11 +29,12 @@ module _ {A : Type 0} where
   kept_kept p q wider [] = refl
   kept_kept p q wider (x ∷ xs) = let rest = kept_kept p q wider xs in let w = wider x in grind arith
 
-  -- those that pass p, with those of r's that pass q, are those that pass t
-  pub sum_split : (p r q t : A → Bool) (n : A → ℕ) (xs : List A) → All (λ x. cond (p x) (n x) 0 + cond (r x) (cond (q x) (n x) 0) 0 ≡ cond (t x) (n x) 0) xs →
-      sum_of p n xs + sum_of q n (kept_by r xs) ≡ sum_of t n xs
-  sum_split p r q t n [] each = refl
-  sum_split p r q t n (x ∷ xs) each =
-      let rest = sum_split p r q t n xs (λ k d within. each (suc k) d (omega arith)) in
-      let here = each 0 x (omega arith) in
+  -- those that pass p, and those of the others that pass a wider test
+  pub sum_split : (p q r : A → Bool) (n : A → ℕ) (xs : List A) → ((x : A) → r x ≡ not (p x)) → All (λ x. p x ≡ true → q x ≡ true) xs →
+      sum_of p n xs + sum_of q n (kept_by r xs) ≡ sum_of q n xs
+  sum_split p q r n [] others wider = refl
+  sum_split p q r n (x ∷ xs) others wider =
+      let rest = sum_split p q r n xs others (λ k d within. wider (suc k) d (omega arith)) in
+      let w = wider 0 x (omega arith) in
+      let o = others x in
       grind arith

@@ -48,8 +48,8 @@ module _ {C : Type 0} {k : Control C} {c : C} {ws : List ℕ} {s : State C} {h :
   pub same_grounds : (x : Call) → first_refusal (checks k s x) ≡ first_refusal (grounds k c ws h x)
   same_grounds (send l) = rw (i.steered.size, control_is i, i.table.claims, length-map, i.table.words, length-drop, too_few, i.duplicates, i.table.sent, i.proved) refl
   same_grounds (acknowledge e m x) =
-      let known = any_claim i.table (on (echoed_past s.proved x)) (echoed h x) (λ g lies. grind (arith, nat_tests, i.proved)) in
-      let fresh = any_claim i.table (unspent s.proved x) (uncounted h x) (λ g lies. grind (arith, nat_tests, i.proved)) in
+      let known = any_claim i.table (on (echoed_past s.proved x)) (λ g passes. grind (arith, nat_tests)) in
+      let fresh = any_claim i.table (unspent s.proved x) (λ g passes. grind (arith, nat_tests)) in
       let whole : farthest h ≤ e → true_sum s e ≡ sum_before e (segments h) = (λ past. true_sum_is i.table e (omega (arith, i.proved))) in
       rw (known, fresh, i.table.sent, i.proved) (grind (arith, nat_tests))
   same_grounds timeout = rw (none_left, i.table.sent, i.proved) refl
