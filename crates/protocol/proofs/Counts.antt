@@ -1,5 +1,5 @@
 -- How many elements of a list pass a test. Assumes nothing.
-use Rattle.std.proofs.Common.{◌≡◌, ℕ, ◌+◌, ◌≤◌, Bool, true, false, cond, not, ◌&&◌, suc, List, [], ◌∷◌, All, refl, arith}
+use Rattle.std.proofs.Common.{◌≡◌, ℕ, ◌+◌, ◌*◌, ◌≤◌, Bool, true, false, cond, not, ◌&&◌, suc, List, [], ◌∷◌, All, refl, arith}
 use Rattle.std.proofs.lemmas.Bool.{false≢true}
 use Rattle.protocol.specs.Lists.{any, sum_of, count, kept_by}
 
@@ -29,12 +29,8 @@ module _ {A : Type 0} where
       let here = within 0 x (omega arith) in
       grind arith
 
-  -- a sum in which v stands for n at each that passes r, of which there are none, or one
-  module _ (p r : A → Bool) (n : A → ℕ) (v : ℕ) (within : (x : A) → r x ≡ true → p x ≡ true) where
-    sum_none : (xs : List A) → count r xs ≡ 0 → sum_of p (λ x. cond (r x) v (n x)) xs ≡ sum_of p (λ x. cond (r x) 0 (n x)) xs
-    sum_none [] none = refl
-    sum_none (x ∷ xs) none = let rest = sum_none xs in let w = within x in grind arith
-
-    pub sum_one : (xs : List A) → count r xs ≡ 1 → sum_of p (λ x. cond (r x) v (n x)) xs ≡ sum_of p (λ x. cond (r x) 0 (n x)) xs + v
-    sum_one [] one = omega arith
-    sum_one (x ∷ xs) one = let rest = sum_one xs in let none = sum_none xs in let w = within x in grind arith
+  -- a sum in which v stands for n at each that passes r
+  pub sum_apart : (p r : A → Bool) (n : A → ℕ) (v : ℕ) → ((x : A) → r x ≡ true → p x ≡ true) → (xs : List A) →
+      sum_of p (λ x. cond (r x) v (n x)) xs ≡ sum_of p (λ x. cond (r x) 0 (n x)) xs + v * count r xs
+  sum_apart p r n v within [] = omega arith
+  sum_apart p r n v within (x ∷ xs) = let rest = sum_apart p r n v within xs in let w = within x in grind arith

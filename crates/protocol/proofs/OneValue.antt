@@ -16,7 +16,7 @@ use Rattle.protocol.specs.Duplicates.{starts_counted}
 use Rattle.protocol.specs.Runs.{state, answer, history}
 use Rattle.protocol.specs.Promises.{reaches, One, Unreached, Passes}
 use Rattle.protocol.proofs.Filters.{sum_of-map}
-use Rattle.protocol.proofs.Counts.{sum_one, count_kept}
+use Rattle.protocol.proofs.Counts.{sum_apart, count_kept}
 use Rattle.protocol.proofs.Steps.{step}
 use Rattle.protocol.proofs.ClaimTable.{ClaimTable, claim}
 use Rattle.protocol.proofs.Invariant.{follows}
@@ -102,8 +102,8 @@ module _ {C : Type 0} (k : Control C) (c : C) (laws : Lawful k) (ws : List ℕ) 
       sum_having : (v : ℕ) → true_sum (having v) e ≡ (rest + v) % 2 ^ 64
       unfolding rest
       sum_having v =
-          let apart = sum_one (on (begun_before e)) (on (starts_at g.start)) nonce v (λ d at. grind (arith, nat_tests)) here.claims one_claim in
-          rw (sum_of-map (on (begun_before e)) (renonced g.start v) nonce, apart) (omega arith)
+          let apart = sum_apart (on (begun_before e)) (on (starts_at g.start)) nonce v (λ d at. grind (arith, nat_tests)) here.claims in
+          rw (sum_of-map (on (begun_before e)) (renonced g.start v) nonce, apart, one_claim) (omega arith)
 
       checked : (v : ℕ) → refusal_of (answer k (opened c (set ws (2 * N) v)) (calls after) (acknowledge e m x)) ≡ first_refusal (checks k (having v) (acknowledge e m x))
       checked v = refusal_is k (state k (opened c (set ws (2 * N) v)) (calls after)) (acknowledge e m x) ∙ ap (λ s. first_refusal (checks k s (acknowledge e m x))) (alike_after v after quiet)
