@@ -1,11 +1,11 @@
 -- Claims that lie one after another in the stream. Assumes nothing.
-use Rattle.std.proofs.Common.{◌≡◌, ℕ, zero, suc, ◌+◌, ◌<◌, ◌≤◌, Bool, true, false, ◌||◌, List, [], ◌∷◌, ◌++◌, length, get_or, set, sym, refl, arith}
+use Rattle.std.proofs.Common.{◌≡◌, ℕ, zero, suc, ◌+◌, ◌<◌, ◌≤◌, Bool, true, false, cond, ◌||◌, List, [], ◌∷◌, ◌++◌, length, get_or, set, sym, refl, arith}
+use Rattle.std.proofs.lemmas.List.Sums.{sum_by_push, sum_by-set, count_by-le-length}
 use Rattle.std.proofs.lemmas.Bool.Decides.{nat_tests}
 use Rattle.protocol.specs.declared.segment.Claim.{Claim}
 use Rattle.protocol.specs.Claims.{spend}
 use Rattle.protocol.specs.Lists.{kept_by}
 use Rattle.protocol.specs.Segments.{finish, starts_at}
-use Rattle.protocol.proofs.Lists.{sum_push}
 use Rattle.claims.specs.Laid.{laid, spent_of}
 use Rattle.claims.specs.Tables.{marked, no_claim}
 
@@ -67,15 +67,12 @@ laid_marked a cs b i h within = rw (sym (spend_set a cs b i h within)) (laid_spe
 
 -- there are no fewer spent ones with one more claim
 pub spent_push : (n : ℕ) (cs : List Claim) (c : Claim) → n ≤ spent_of cs → n ≤ spent_of (cs ++ (c ∷ []))
-spent_push n cs c h = omega (arith, sum_push (λ (d : Claim). d.spent) (λ d. 1) cs c)
+spent_push n cs c h = omega (arith, sum_by_push (λ (d : Claim). cond d.spent 1 0) cs c)
 
 -- and one more where one is marked that was not
 pub spent_set : (cs : List Claim) (i : ℕ) → i < length cs → (get_or cs i no_claim).spent ≡ false → spent_of (set cs i (marked (get_or cs i no_claim))) ≡ spent_of cs + 1
-spent_set [] i within fresh = absurd (omega arith)
-spent_set (c ∷ cs) zero within fresh = grind arith
-spent_set (c ∷ cs) (suc i) within fresh = let rest = spent_set cs i (omega arith) fresh in omega arith
+spent_set cs i within fresh = grind (arith, sum_by-set (λ (d : Claim). cond d.spent 1 0) cs i (marked (get_or cs i no_claim)) no_claim within)
 
 -- there are no more spent ones than claims
 pub spent_few : (cs : List Claim) → spent_of cs ≤ length cs
-spent_few [] = omega arith
-spent_few (c ∷ cs) = let rest = spent_few cs in grind arith
+spent_few cs = count_by-le-length (λ (d : Claim). d.spent) cs

@@ -1,5 +1,6 @@
 -- What the walks over the claims come to. Assumes nothing.
 use Rattle.std.proofs.Common.{◌≡◌, ℕ, ◌+◌, ◌%◌, ◌^◌, ◌<◌, Bool, true, false, cond, List, [], ◌∷◌, Option, Some, None, map, filter, find, fold, refl, arith}
+use Rattle.std.proofs.lemmas.List.Sums.{sum_by_from}
 use Rattle.protocol.specs.declared.segment.Segment.{Segment}
 use Rattle.protocol.specs.declared.segment.Claim.{Claim}
 use Rattle.protocol.specs.Claims.{nonce}
@@ -13,7 +14,7 @@ sum_folds p sum [] fits = grind arith
 sum_folds p sum (c ∷ cs) fits =
     let one_more = sum_folds p (add_nonce sum c) cs in
     let as_before = sum_folds p sum cs in
-    grind arith
+    grind (arith, sum_by_from)
 
 -- the first segment that starts at o
 pub first_named : (o : ℕ) (cs : List Claim) → Named o cs (find (starts_at o) (map (λ (c : Claim). c.segment) cs))

@@ -1,9 +1,10 @@
 -- The claims of a sender against the segments sent and the starts counted. Assumes nothing.
-use Rattle.std.proofs.Common.{◌≡◌, ℕ, ◌+◌, ◌*◌, ◌%◌, ◌^◌, ◌<◌, ◌≤◌, Bool, true, false, not, ◌&&◌, List, [], ◌∷◌, ◌++◌, map, length, get_or, drop, nat_eq, All, sym, refl, ap, ◌∙◌, add-zero, arith}
+use Rattle.std.proofs.Common.{◌≡◌, ℕ, ◌+◌, ◌*◌, ◌%◌, ◌^◌, ◌<◌, ◌≤◌, Bool, true, false, cond, not, ◌&&◌, List, [], ◌∷◌, ◌++◌, map, length, get_or, drop, nat_eq, All, sym, refl, ap, ◌∙◌, add-zero, arith}
 use Rattle.std.proofs.Math.Nat.{mod-add-mod}
 use Rattle.std.proofs.lemmas.List.{map-append, drop-drop, length_push}
 use Rattle.std.proofs.lemmas.List.Elements.{filter-append, All-push, All-cons}
 use Rattle.std.proofs.lemmas.Map.Views.{any-filter_same}
+use Rattle.std.proofs.lemmas.List.Sums.{sum_by_push}
 use Rattle.std.proofs.lemmas.List.Folds.{Any-from_list_any, list_any_none}
 use Rattle.std.proofs.lemmas.Bool.{lt-ltb, lt-leb}
 use Rattle.std.proofs.lemmas.Bool.Decides.{nat_tests}
@@ -17,7 +18,6 @@ use Rattle.protocol.specs.Calls.{Call, State, Reply}
 use Rattle.protocol.specs.SenderRules.{true_sum, after_send, after_advance, after_duplicate}
 use Rattle.protocol.specs.History.{History, noted, segments, bytes, sum_before}
 use Rattle.protocol.specs.Duplicates.{starts_counted}
-use Rattle.protocol.proofs.Lists.{sum_push}
 use Rattle.protocol.proofs.Filters.{any-map, kept_map, sum_of-map, kept_kept, sum_split}
 use Rattle.protocol.proofs.Steps.{Step, Found}
 use Rattle.protocol.proofs.Steps.Step.{sends, advances, counts}
@@ -95,7 +95,7 @@ module _ {C : Type 0} {ws : List ℕ} {s : State C} {gs : List Segment} {os : Li
         let unproved = lt-ltb s.proved (finish g) (omega (arith, t.within)) in
         let fresh = list_any_none (nat_eq g.start) os (λ k d within. let below = t.seen k d within in grind (arith, nat_tests)) in
         rw (t.claims, filter-append (ends_past s.proved) gs (g ∷ []), unproved, map-append, fresh) refl;
-    settled = rw (sum_push (ends_by s.proved) (λ f. f.summed) gs g, lt-leb (finish g) s.proved (omega (arith, t.within)), add-zero) t.settled;
+    settled = rw (sum_by_push (λ f. cond (ends_by s.proved f) f.summed 0) gs g, lt-leb (finish g) s.proved (omega (arith, t.within)), add-zero) t.settled;
   }
 
   advanced_table : (k : Control C) (e : ℕ) → s.proved < e → e ≤ s.sent → ClaimTable ws (after_advance k s e) gs os

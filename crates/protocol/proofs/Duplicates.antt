@@ -1,5 +1,6 @@
 -- What a duplicate is counted for, and how many there can be. Assumes nothing.
-use Rattle.std.proofs.Common.{◌≡◌, ℕ, ◌+◌, ◌≤◌, Bool, true, false, not, ◌&&◌, eqb, ltb, List, ◌∷◌, Some, arith}
+use Rattle.std.proofs.Common.{◌≡◌, ℕ, ◌+◌, ◌≤◌, Bool, true, false, cond, not, ◌&&◌, eqb, ltb, List, ◌∷◌, Some, arith}
+use Rattle.std.proofs.lemmas.List.Sums.{sum_by_push}
 use Rattle.std.proofs.lemmas.Bool.Decides.{nat_tests}
 use Rattle.congestion.specs.Control.{Control}
 use Rattle.protocol.specs.declared.segment.Segment.{Segment}
@@ -9,7 +10,6 @@ use Rattle.protocol.specs.Calls.{Call, State, Reply}
 use Rattle.protocol.specs.Calls.Call.{acknowledge}
 use Rattle.protocol.specs.History.{History, noted, segments, farthest}
 use Rattle.protocol.specs.Duplicates.{counted_for, starts_counted, beyond, Counted}
-use Rattle.protocol.proofs.Lists.{sum_push}
 use Rattle.protocol.proofs.Filters.{any_wider}
 use Rattle.protocol.proofs.Counts.{count_wider, count_more}
 use Rattle.protocol.proofs.Steps.{Step, Found}
@@ -34,7 +34,7 @@ module _ {C : Type 0} {ws : List ℕ} {s : State C} (h : History) (t : ClaimTabl
       omega (arith, count_more before after (λ g passes. grind (arith, nat_tests)) (segments h) new)
 
   pub keeps_backed : {k : Control C} {x : Call} {r : Reply C} → Step k s x r → Backed s h → Backed r.state (noted x r.answer h)
-  keeps_backed (sends some enough) backed = rw sum_push (omega arith)
+  keeps_backed (sends some enough) backed = rw (sum_by_push (λ g. cond (used s.proved (starts_counted h) g) 1 0)) (omega arith)
   keeps_backed (advances past within same) backed = omega arith
   keeps_backed (counts {x} o true level found) backed = one_more x o found backed
   keeps_backed (counts {x} o false level found) backed = one_more x o found backed

@@ -1,4 +1,3 @@
-pub mod Lists
 pub mod Filters
 pub mod Counts
 pub mod Steps

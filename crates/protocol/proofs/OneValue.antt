@@ -93,7 +93,7 @@ module _ {C : Type 0} (k : Control C) (c : C) (laws : Lawful k) (ws : List ℕ) 
           let gs = segments (past (calls after)) in
           let t = tabled (calls after) in
           let there = held after quiet in
-          rw (t.claims, sum_of-map (on (starts_at g.start)) (claim (starts_counted (past (calls after))))) (count_kept (ends_past here.proved) (starts_at g.start) gs (λ k d within at. let lies = t.lie k d within in let u = there.unproved in grind (arith, nat_tests)) ∙ there.one)
+          rw (t.claims, sum_of-map (on (starts_at g.start)) (claim (starts_counted (past (calls after)))) (λ d. 1)) (count_kept (ends_past here.proved) (starts_at g.start) gs (λ k d within at. let lies = t.lie k d within in let u = there.unproved in grind (arith, nat_tests)) ∙ there.one)
 
       -- the true sum without that nonce
       rest : ℕ

@@ -6,6 +6,7 @@ use Rattle.std.proofs.lemmas.Bool.{lt-ltb, cases_lt}
 use Rattle.std.proofs.lemmas.Bool.Decides.{nat_tests}
 use Rattle.fault.specs.Refusals.{Refusal}
 use Rattle.congestion.specs.Control.{Control}
+use Rattle.std.proofs.lemmas.List.Sums.{sum_by_from}
 use Rattle.protocol.specs.declared.segment.Segment.{Segment}
 use Rattle.protocol.specs.declared.segment.Claim.{Claim}
 use Rattle.protocol.specs.Lists.{sum_of, kept_by}
@@ -46,7 +47,7 @@ module _ (o v : ℕ) where
       let rest = sum_renonced p blind cs (λ k d within. apart (suc k) d (omega arith)) in
       let first = apart 0 c (omega arith) in
       let here = blind c in
-      grind arith
+      grind (arith, sum_by_from)
 
   oldest_renonced : (p : Claim → Bool) → Blind p → (cs : List Claim) → oldest p (map (renonced o v) cs) ≡ oldest p cs
   oldest_renonced p blind [] = refl

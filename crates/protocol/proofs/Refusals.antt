@@ -12,7 +12,7 @@ use Rattle.protocol.specs.Calls.Call.{send, acknowledge, timeout, take, repeat, 
 use Rattle.protocol.specs.Calls.Answer.{refused}
 use Rattle.protocol.specs.SenderRules.{true_sum, checks, accepted, concluded, reply}
 use Rattle.protocol.specs.History.{History, segments, farthest, sum_before}
-use Rattle.protocol.specs.Duplicates.{starts_counted, echoed, uncounted}
+use Rattle.protocol.specs.Duplicates.{starts_counted}
 use Rattle.protocol.specs.Grounds.{grounds}
 use Rattle.protocol.proofs.Filters.{any-map}
 use Rattle.protocol.proofs.ClaimTable.{claim, true_sum_is, any_claim}

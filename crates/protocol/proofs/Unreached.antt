@@ -1,6 +1,7 @@
 -- A segment from its sending until an acknowledgement ends past its start. Assumes nothing.
-use Rattle.std.proofs.Common.{◌≡◌, ℕ, ◌*◌, ◌<◌, ◌≤◌, true, false, eqb, List, length, refl, ap, ◌∙◌, arith}
+use Rattle.std.proofs.Common.{◌≡◌, ℕ, ◌*◌, ◌<◌, ◌≤◌, true, false, cond, eqb, List, length, refl, ap, ◌∙◌, arith}
 use Rattle.std.proofs.lemmas.List.{length_push, length-drop}
+use Rattle.std.proofs.lemmas.List.Sums.{sum_by_push, sum_by-le}
 use Rattle.std.proofs.lemmas.Bool.Decides.{nat_tests}
 use Rattle.congestion.specs.Control.{Control}
 use Rattle.protocol.specs.declared.segment.Segment.{Segment}
@@ -13,8 +14,6 @@ use Rattle.protocol.specs.SenderRules.{next}
 use Rattle.protocol.specs.History.{History, noted, segments, bytes}
 use Rattle.protocol.specs.Duplicates.{starts_counted}
 use Rattle.protocol.specs.Promises.{reaches}
-use Rattle.protocol.proofs.Lists.{sum_push}
-use Rattle.protocol.proofs.Counts.{count_none}
 use Rattle.protocol.proofs.Steps.{Step}
 use Rattle.protocol.proofs.Steps.Step.{refuses, sends, advances, counts}
 use Rattle.protocol.proofs.ClaimTable.{ClaimTable}
@@ -53,12 +52,12 @@ module _ {C : Type 0} {k : Control C} {s : State C} (h : History) where
         Held o N (segments (noted (send l) r.answer h)) r.state.sent r.state.proved
     first_held (refuses idle) is at all = grind arith
     first_held (sends {l} some enough) is {o} at all =
-        let none = count_none (starts_at o) (segments h) (λ k d within. let lies = t.lie k d within in grind (arith, nat_tests)) in
+        let none = sum_by-le (λ f. cond (starts_at o f) 1 0) 0 (segments h) (λ k d within. let lies = t.lie k d within in grind (arith, nat_tests)) in
         record {
           later = omega (arith, length_push (segments h) (next s l));
           beyond = omega arith;
           unproved = omega (arith, t.within);
-          one = sum_push (starts_at o) (λ f. 1) (segments h) (next s l) ∙ grind (arith, nat_tests);
+          one = sum_by_push (λ f. cond (starts_at o f) 1 0) (segments h) (next s l) ∙ grind (arith, nat_tests);
         }
 
     pub still_held : {x : Call} {r : Reply C} → Step k s x r → {o N : ℕ} → Held o N (segments h) s.sent s.proved → reaches o x h ≡ false →
@@ -67,7 +66,7 @@ module _ {C : Type 0} {k : Control C} {s : State C} (h : History) where
       later = omega (arith, length_push (segments h) (next s l), held.later);
       beyond = omega (arith, held.beyond);
       unproved = held.unproved;
-      one = let past = held.beyond in sum_push (starts_at o) (λ f. 1) (segments h) (next s l) ∙ grind (arith, nat_tests, held.one);
+      one = let past = held.beyond in sum_by_push (λ f. cond (starts_at o f) 1 0) (segments h) (next s l) ∙ grind (arith, nat_tests, held.one);
     }
     still_held (advances past within same) held quiet = record { later = held.later; beyond = held.beyond; unproved = grind (arith, nat_tests, t.sent); one = held.one }
     still_held (counts q true level found) held quiet = held

@@ -4,7 +4,7 @@
 --     member o xs      the number o stands in xs
 --     sum_of p f xs, count p xs      the sum of f over those that pass p; how many pass p
 --     kept_by p xs      those that pass p (std)
-use Rattle.std.specs.Prelude.{ℕ, ◌+◌, Bool, false, cond, List, [], ◌∷◌, nat_eq}
+use Rattle.std.specs.Prelude.{ℕ, Bool, false, cond, List, [], ◌∷◌, nat_eq, sum_by, count_by}
 use Rattle.std.specs.List.{list_any}
 pub use Rattle.std.specs.List.{filter as kept_by}
 
@@ -19,8 +19,7 @@ abbrev pub member : ℕ → List ℕ → Bool
 member o xs = any (nat_eq o) xs
 
 abbrev pub sum_of : {A : Type 0} → (A → Bool) → (A → ℕ) → List A → ℕ
-sum_of p f [] = 0
-sum_of p f (x ∷ xs) = cond (p x) (f x) 0 + sum_of p f xs
+sum_of p f xs = sum_by (λ x. cond (p x) (f x) 0) xs
 
 abbrev pub count : {A : Type 0} → (A → Bool) → List A → ℕ
-count p xs = sum_of p (λ x. 1) xs
+count p xs = count_by p xs
