@@ -18,7 +18,7 @@ use Rattle.protocol.specs.Calls.{Call, State, Reply}
 use Rattle.protocol.specs.SenderRules.{true_sum, after_send, after_advance, after_duplicate}
 use Rattle.protocol.specs.History.{History, noted, segments, bytes, sum_before}
 use Rattle.protocol.specs.Duplicates.{starts_counted}
-use Rattle.protocol.proofs.Filters.{any-map, kept_map, sum_of-map, kept_kept, sum_split}
+use Rattle.protocol.proofs.Lists.{map-map, any-map, kept_map, sum_of-map, kept_twice, sum_split}
 use Rattle.protocol.proofs.Steps.{Step, Found}
 use Rattle.protocol.proofs.Steps.Step.{sends, advances, counts}
 
@@ -41,14 +41,6 @@ pub record ClaimTable {C : Type 0} (ws : List ℕ) (s : State C) (gs : List Segm
   pub claims : s.claims ≡ map (claim os) (kept_by (ends_past s.proved) gs)
   pub settled : s.settled ≡ sum_of (ends_by s.proved) (λ g. g.summed) gs % 2 ^ 64
 
-bytes_push : (gs : List Segment) (g : Segment) → bytes (gs ++ (g ∷ [])) ≡ bytes gs + g.length
-bytes_push [] g = omega arith
-bytes_push (f ∷ gs) g = let rest = bytes_push gs g in omega arith
-
-spend_claims : (o : ℕ) (os : List ℕ) (gs : List Segment) → spend o (map (claim os) gs) ≡ map (claim (o ∷ os)) gs
-spend_claims o os [] = refl
-spend_claims o os (g ∷ gs) = ap (λ cs. claim (o ∷ os) g ∷ cs) (spend_claims o os gs)
-
 module _ {C : Type 0} {ws : List ℕ} {s : State C} {gs : List Segment} {os : List ℕ} (t : ClaimTable ws s gs os) where
   -- not acknowledged to the end
   abbrev pending : List Segment
@@ -58,7 +50,7 @@ module _ {C : Type 0} {ws : List ℕ} {s : State C} {gs : List Segment} {os : Li
   sums : (p : Segment → Bool) → ((g : Segment) → Lies s.sent g → ends_by s.proved g ≡ true → p g ≡ true) →
       (s.settled + sum_of (on p) nonce s.claims) % 2 ^ 64 ≡ sum_of p (λ g. g.summed) gs % 2 ^ 64
   sums p wide =
-      let claimed = ap (sum_of (on p) nonce) t.claims ∙ sum_of-map (on p) (claim os) nonce pending in
+      let claimed = ap (sum_of (on p) nonce) t.claims ∙ sum_of-map (claim os) (on p) nonce pending in
       let whole = sum_split (ends_by s.proved) p (ends_past s.proved) (λ g. g.summed) gs (λ g. grind (arith, nat_tests)) (λ k d within. wide (get_or gs k d) (t.lie k d within)) in
       rw (t.settled, claimed, mod-add-mod, whole) refl
 
@@ -67,7 +59,7 @@ module _ {C : Type 0} {ws : List ℕ} {s : State C} {gs : List Segment} {os : Li
 
   -- a test of the claims is one of all segments, if only those that are not acknowledged to the end can pass
   pub any_claim : (p : Claim → Bool) → ((g : Segment) → p (claim os g) ≡ true → ends_past s.proved g ≡ true) → any p s.claims ≡ any (λ g. p (claim os g)) gs
-  any_claim p past = rw (t.claims, any-map p (claim os)) (any-filter_same (λ g. p (claim os g)) (ends_past s.proved) true past gs)
+  any_claim p past = rw (t.claims, any-map (claim os) p) (any-filter_same (λ g. p (claim os g)) (ends_past s.proved) true past gs)
 
   -- the segment of a claim that an echo finds
   pub found_segment : (x o : ℕ) → Found s x o → any (λ g. starts_at o g && (echoed_past s.proved x g && not (member g.start os))) gs ≡ true
@@ -86,7 +78,7 @@ module _ {C : Type 0} {ws : List ℕ} {s : State C} {gs : List Segment} {os : Li
 
   sent_table : (g : Segment) → g.start ≡ s.sent → 0 < g.length → ClaimTable ws (after_send s g) (gs ++ (g ∷ [])) os
   sent_table g here some = record {
-    sent = omega (arith, bytes_push gs g, t.sent);
+    sent = omega (arith, sum_by_push (λ (f : Segment). f.length) gs g, t.sent);
     words = ap (drop 2) t.words ∙ drop-drop 2 (2 * length gs) ws ∙ ap (λ n. drop n ws) (omega (arith, length_push gs g));
     within = omega (arith, t.within);
     lie = All-push (Lies (s.sent + g.length)) gs g (λ k d within. let lies = t.lie k d within in omega arith) (omega arith);
@@ -106,8 +98,8 @@ module _ {C : Type 0} {ws : List ℕ} {s : State C} {gs : List Segment} {os : Li
     lie = t.lie;
     seen = t.seen;
     claims =
-        let fewer = kept_kept (ends_past s.proved) (ends_past e) (λ g by. grind (arith, nat_tests)) gs in
-        ap (kept_by (on (ends_past e))) t.claims ∙ kept_map (on (ends_past e)) (claim os) pending ∙ ap (map (claim os)) fewer;
+        let fewer = kept_twice (ends_past e) (ends_past s.proved) (λ g by. grind (arith, nat_tests)) gs in
+        ap (kept_by (on (ends_past e))) t.claims ∙ kept_map (claim os) (on (ends_past e)) pending ∙ ap (map (claim os)) fewer;
     settled = sums (ends_by e) (λ g lies by. grind (arith, nat_tests));
   }
 
@@ -118,7 +110,7 @@ module _ {C : Type 0} {ws : List ℕ} {s : State C} {gs : List Segment} {os : Li
     within = t.within;
     lie = t.lie;
     seen = All-cons (λ p. p < s.sent) o os (found_new x o found).0 t.seen;
-    claims = ap (spend o) t.claims ∙ spend_claims o os pending;
+    claims = ap (spend o) t.claims ∙ map-map (claim os) _ pending;
     settled = t.settled;
   }
 

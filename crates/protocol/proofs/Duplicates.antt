@@ -10,8 +10,7 @@ use Rattle.protocol.specs.Calls.{Call, State, Reply}
 use Rattle.protocol.specs.Calls.Call.{acknowledge}
 use Rattle.protocol.specs.History.{History, noted, segments, farthest}
 use Rattle.protocol.specs.Duplicates.{counted_for, starts_counted, beyond, Counted}
-use Rattle.protocol.proofs.Filters.{any_wider}
-use Rattle.protocol.proofs.Counts.{count_wider, count_more}
+use Rattle.protocol.proofs.Lists.{any_wider, count_wider, count_more}
 use Rattle.protocol.proofs.Steps.{Step, Found}
 use Rattle.protocol.proofs.Steps.Step.{sends, advances, counts, expires}
 use Rattle.protocol.proofs.ClaimTable.{ClaimTable, found_segment, found_new}

@@ -15,7 +15,7 @@ use Rattle.protocol.specs.History.{History, noted, segments, EndToEnd, farthest}
 use Rattle.protocol.specs.Signals.{signals, credited_once}
 use Rattle.protocol.specs.Duplicates.{starts_counted, beyond, duplicates_since, repeat_due}
 use Rattle.protocol.specs.Runs.{state, history}
-use Rattle.protocol.proofs.Filters.{leads-map}
+use Rattle.protocol.proofs.Lists.{leads-map}
 use Rattle.protocol.proofs.Steps.{Step, Idle, step}
 use Rattle.protocol.proofs.Steps.Step.{refuses, advances, counts, expires, orders, returns}
 use Rattle.protocol.proofs.ClaimTable.{ClaimTable, Lies, claim, true_sum_is, keeps_table}
@@ -59,7 +59,7 @@ module _ {C : Type 0} {k : Control C} {c : C} {ws : List ℕ} {s : State C} {h :
   keeps_due (counts o true level found) = refl
   keeps_due (expires past) = refl
   keeps_due (orders due) = refl
-  keeps_due (returns {o}) = rw (i.due, i.table.claims, leads-map (on (starts_at o)) (claim (starts_counted h)), i.proved) refl
+  keeps_due (returns {o}) = rw (i.due, i.table.claims, leads-map (claim (starts_counted h)) (on (starts_at o)), i.proved) refl
   keeps_due other = i.due
 
   keeps : Lawful k → {x : Call} {r : Reply C} → Step k s x r → Follows k c ws r.state (noted x r.answer h)

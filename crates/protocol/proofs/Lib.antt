@@ -1,5 +1,4 @@
-pub mod Filters
-pub mod Counts
+pub mod Lists
 pub mod Steps
 pub mod ClaimTable
 pub mod Signals

@@ -15,8 +15,7 @@ use Rattle.protocol.specs.History.{History, segments, bytes}
 use Rattle.protocol.specs.Duplicates.{starts_counted}
 use Rattle.protocol.specs.Runs.{state, answer, history}
 use Rattle.protocol.specs.Promises.{reaches, One, Unreached, Passes}
-use Rattle.protocol.proofs.Filters.{sum_of-map}
-use Rattle.protocol.proofs.Counts.{sum_apart, count_kept}
+use Rattle.protocol.proofs.Lists.{sum_of-map, sum_apart, count_kept}
 use Rattle.protocol.proofs.Steps.{step}
 use Rattle.protocol.proofs.ClaimTable.{ClaimTable, claim}
 use Rattle.protocol.proofs.Invariant.{follows}
@@ -93,7 +92,7 @@ module _ {C : Type 0} (k : Control C) (c : C) (laws : Lawful k) (ws : List ℕ) 
           let gs = segments (past (calls after)) in
           let t = tabled (calls after) in
           let there = held after quiet in
-          rw (t.claims, sum_of-map (on (starts_at g.start)) (claim (starts_counted (past (calls after)))) (λ d. 1)) (count_kept (ends_past here.proved) (starts_at g.start) gs (λ k d within at. let lies = t.lie k d within in let u = there.unproved in grind (arith, nat_tests)) ∙ there.one)
+          rw (t.claims, sum_of-map (claim (starts_counted (past (calls after)))) (on (starts_at g.start)) (λ d. 1)) (count_kept (starts_at g.start) (ends_past here.proved) gs (λ k d within at. let lies = t.lie k d within in let u = there.unproved in grind (arith, nat_tests)) ∙ there.one)
 
       -- the true sum without that nonce
       rest : ℕ
@@ -102,8 +101,8 @@ module _ {C : Type 0} (k : Control C) (c : C) (laws : Lawful k) (ws : List ℕ) 
       sum_having : (v : ℕ) → true_sum (having v) e ≡ (rest + v) % 2 ^ 64
       unfolding rest
       sum_having v =
-          let apart = sum_apart (on (begun_before e)) (on (starts_at g.start)) nonce v (λ d at. grind (arith, nat_tests)) here.claims in
-          rw (sum_of-map (on (begun_before e)) (renonced g.start v) nonce, apart, one_claim) (omega arith)
+          let apart = sum_apart (on (starts_at g.start)) (on (begun_before e)) (λ d at. grind (arith, nat_tests)) nonce v here.claims in
+          rw (sum_of-map (renonced g.start v) (on (begun_before e)) nonce, apart, one_claim) (omega arith)
 
       checked : (v : ℕ) → refusal_of (answer k (opened c (set ws (2 * N) v)) (calls after) (acknowledge e m x)) ≡ first_refusal (checks k (having v) (acknowledge e m x))
       checked v = refusal_is k (state k (opened c (set ws (2 * N) v)) (calls after)) (acknowledge e m x) ∙ ap (λ s. first_refusal (checks k s (acknowledge e m x))) (alike_after v after quiet)

@@ -1,5 +1,5 @@
 -- The sender with another summed nonce in one of its claims: until an acknowledgement ends past that claim's start, nothing else differs. Assumes nothing.
-use Rattle.std.proofs.Common.{◌≡◌, ℕ, ◌+◌, ◌*◌, ◌<◌, ◌≤◌, Bool, true, false, cond, ◌||◌, eqb, ltb, suc, List, [], ◌∷◌, map, length, get_or, drop, set, All, Some, None, Option, refl, ap, ◌∙◌, ⊎_elim, arith}
+use Rattle.std.proofs.Common.{◌≡◌, ℕ, ◌+◌, ◌*◌, ◌<◌, ◌≤◌, Bool, true, false, cond, eqb, ltb, suc, List, [], ◌∷◌, map, length, get_or, drop, set, All, Some, None, Option, refl, ap, ◌∙◌, ⊎_elim, arith}
 use Rattle.std.proofs.lemmas.List.{length-map, length-drop, length-set, length_push, map-append, drop-drop, get_or-drop, get_or-set_same, get_or-set_other}
 use Rattle.std.proofs.lemmas.List.Elements.{All-map, All-filter}
 use Rattle.std.proofs.lemmas.Bool.{lt-ltb, cases_lt}
@@ -11,7 +11,7 @@ use Rattle.protocol.specs.declared.segment.Segment.{Segment}
 use Rattle.protocol.specs.declared.segment.Claim.{Claim}
 use Rattle.protocol.specs.Lists.{sum_of, kept_by}
 use Rattle.protocol.specs.Segments.{begun_before, ends_by, ends_past, starts_at, echoed_past}
-use Rattle.protocol.specs.Claims.{on, nonce, unspent, oldest, spend}
+use Rattle.protocol.specs.Claims.{on, nonce, unspent, oldest}
 use Rattle.protocol.specs.Checks.{first_refusal}
 use Rattle.protocol.specs.Calls.{Call, State, Reply, if_acknowledge}
 use Rattle.protocol.specs.Calls.Call.{send, acknowledge, repeat, put_back}
@@ -20,7 +20,7 @@ use Rattle.protocol.specs.SenderRules.{checks, after_advance, after_duplicate, a
 use Rattle.protocol.specs.History.{History, noted, segments}
 use Rattle.protocol.specs.Duplicates.{starts_counted}
 use Rattle.protocol.specs.Promises.{reaches}
-use Rattle.protocol.proofs.Filters.{any-map, leads-map, kept_map}
+use Rattle.protocol.proofs.Lists.{map-map, any-map, leads-map, kept_map}
 use Rattle.protocol.proofs.ClaimTable.{ClaimTable, Lies, claim}
 
 -- v for the summed nonce of the claim at o
@@ -53,10 +53,6 @@ module _ (o v : ℕ) where
   oldest_renonced p blind [] = refl
   oldest_renonced p blind (c ∷ cs) = rw (blind c, oldest_renonced p blind cs) refl
 
-  spend_renonced : (q : ℕ) (cs : List Claim) → spend q (map (renonced o v) cs) ≡ map (renonced o v) (spend q cs)
-  spend_renonced q [] = refl
-  spend_renonced q (c ∷ cs) = ap (λ ds. renonced o v (record { segment = c.segment; spent = on (starts_at q) c || c.spent }) ∷ ds) (spend_renonced q cs)
-
 module _ {C : Type 0} {ws : List ℕ} {s : State C} {gs : List Segment} {os : List ℕ} (t : ClaimTable ws s gs os) where
   claims_lie : All (λ c. Lies s.sent c.segment) s.claims
   claims_lie = rw t.claims (All-map (λ c. Lies s.sent c.segment) (claim os) (kept_by (ends_past s.proved) gs) (All-filter (ends_past s.proved) (Lies s.sent) gs t.lie))
@@ -70,15 +66,15 @@ module _ {C : Type 0} {ws : List ℕ} {s : State C} {gs : List Segment} {os : Li
     same_checks : (e m x : ℕ) → e ≤ o → first_refusal (checks k (other o v vs s) (acknowledge e m x)) ≡ first_refusal (checks k s (acknowledge e m x))
     same_checks e m x upto =
         let summed = same_sum (on (begun_before e)) (λ c. refl) (λ c lies by. grind (arith, nat_tests)) in
-        rw (summed, any-map (on (echoed_past s.proved x)) (renonced o v), any-map (unspent s.proved x) (renonced o v)) refl
+        rw (summed, any-map (renonced o v) (on (echoed_past s.proved x)), any-map (renonced o v) (unspent s.proved x)) refl
 
     same_advance : (e : ℕ) → e ≤ o → after_advance k (other o v vs s) e ≡ other o v vs (after_advance k s e)
     same_advance e upto =
         let summed = same_sum (on (ends_by e)) (λ c. refl) (λ c lies by. grind (arith, nat_tests)) in
-        rw (summed, kept_map (on (ends_past e)) (renonced o v)) refl
+        rw (summed, kept_map (renonced o v) (on (ends_past e))) refl
 
     same_duplicate : (q : ℕ) (third : Bool) → after_duplicate k (other o v vs s) q third ≡ other o v vs (after_duplicate k s q third)
-    same_duplicate q third = rw (spend_renonced o v) refl
+    same_duplicate q third = rw (map-map, map-map) refl
 
 -- N segments were sent before the one at o, which is to draw v
 module _ {C : Type 0} (k : Control C) (o v N : ℕ) (ws : List ℕ) (room : 2 * N < length ws) where
@@ -107,7 +103,7 @@ module _ {C : Type 0} (k : Control C) (o v N : ℕ) (ws : List ℕ) (room : 2 * 
     same_first : (x : Call) → Upto o x → first_refusal (checks k now x) ≡ first_refusal (checks k s x)
     same_first (send l) upto = rw (length-map, words_left) refl
     same_first (acknowledge e m x) upto = same_checks t k o v (left h) e m x upto
-    same_first (repeat q) upto = rw (any-map (on (starts_at q)) (renonced o v)) refl
+    same_first (repeat q) upto = rw (any-map (renonced o v) (on (starts_at q))) refl
     same_first x upto = refl
 
     -- a duplicate makes no segment
@@ -130,7 +126,7 @@ module _ {C : Type 0} (k : Control C) (o v N : ℕ) (ws : List ℕ) (room : 2 * 
         go : (past : Bool) → (acknowledged k now e x past).state ≡ after (acknowledge e m x) (acknowledged k s e x past)
         go true = same_advance t k o v (left h) e upto
         go false = same_counted e m x
-    same_accepted (put_back q) upto = rw (leads-map (on (starts_at q)) (renonced o v)) refl
+    same_accepted (put_back q) upto = rw (leads-map (renonced o v) (on (starts_at q))) refl
     same_accepted x upto = refl
 
     same_reply : (x : Call) → Upto o x → (reply k now x).state ≡ after x (reply k s x)

@@ -14,7 +14,7 @@ use Rattle.protocol.specs.SenderRules.{true_sum, checks, accepted, concluded, re
 use Rattle.protocol.specs.History.{History, segments, farthest, sum_before}
 use Rattle.protocol.specs.Duplicates.{starts_counted}
 use Rattle.protocol.specs.Grounds.{grounds}
-use Rattle.protocol.proofs.Filters.{any-map}
+use Rattle.protocol.proofs.Lists.{any-map}
 use Rattle.protocol.proofs.ClaimTable.{claim, true_sum_is, any_claim}
 use Rattle.protocol.proofs.Invariant.{Follows, control_is}
 
@@ -54,5 +54,5 @@ module _ {C : Type 0} {k : Control C} {c : C} {ws : List ℕ} {s : State C} {h :
       rw (known, fresh, i.table.sent, i.proved) (grind (arith, nat_tests))
   same_grounds timeout = rw (none_left, i.table.sent, i.proved) refl
   same_grounds take = rw (i.due, i.table.sent) refl
-  same_grounds (repeat o) = rw (i.table.claims, any-map (on (starts_at o)) (claim (starts_counted h)), i.proved) refl
+  same_grounds (repeat o) = rw (i.table.claims, any-map (claim (starts_counted h)) (on (starts_at o)), i.proved) refl
   same_grounds (put_back o) = refl

@@ -15,7 +15,7 @@ use Rattle.protocol.specs.Calls.Call.{take, repeat}
 use Rattle.protocol.specs.Calls.Answer.{ordered, repeated}
 use Rattle.protocol.specs.History.{History, noted, segments, EndToEnd}
 use Rattle.protocol.specs.Duplicates.{starts_counted}
-use Rattle.protocol.proofs.Filters.{leads-map, any_wider}
+use Rattle.protocol.proofs.Lists.{leads-map, any_wider}
 use Rattle.protocol.proofs.Steps.{Step, Found}
 use Rattle.protocol.proofs.Steps.Step.{refuses, sends, advances, counts, expires, orders, repeats, returns}
 use Rattle.protocol.proofs.ClaimTable.{ClaimTable, claim, found_segment}
@@ -41,7 +41,7 @@ module _ {C : Type 0} {ws : List ℕ} {s : State C} (h : History) (t : ClaimTabl
   keeps_waiting (expires past) waiting = λ due. one_past s.proved 0 (segments h) joined (omega arith) (omega (arith, t.sent))
   keeps_waiting (orders due) waiting = λ again. absurd (false≢true again)
   keeps_waiting (returns {o}) waiting = λ due.
-      let either = rw (t.claims, leads-map (on (starts_at o)) (claim (starts_counted h))) at due in
+      let either = rw (t.claims, leads-map (claim (starts_counted h)) (on (starts_at o))) at due in
       let again = kept_some (starts_at o) (ends_past s.proved) (segments h) in
       grind arith
   keeps_waiting other waiting = waiting

@@ -1,5 +1,5 @@
 -- The claims of a sender, the oldest first. Assumes nothing.
-use Rattle.std.specs.Prelude.{ℕ, Bool, false, cond, not, ◌&&◌, ◌||◌, List, [], ◌∷◌}
+use Rattle.std.specs.Prelude.{ℕ, Bool, false, cond, not, ◌&&◌, ◌||◌, List, [], ◌∷◌, map}
 use Rattle.protocol.specs.declared.segment.Segment.{Segment}
 use Rattle.protocol.specs.declared.segment.Claim.{Claim}
 use Rattle.protocol.specs.Segments.{starts_at, echoed_past}
@@ -31,5 +31,4 @@ segment_at o (c ∷ cs) = cond (starts_at o c.segment) c.segment (segment_at o c
 
 -- the claim that starts at o is marked, the others stay
 abbrev pub spend : ℕ → List Claim → List Claim
-spend o [] = []
-spend o (c ∷ cs) = record c { spent = starts_at o c.segment || c.spent } ∷ spend o cs
+spend o cs = map (λ (c : Claim). record c { spent = starts_at o c.segment || c.spent }) cs

@@ -1,5 +1,5 @@
 -- A history: calls on a sender with their answers, and what they tell of the stream. Assumes nothing.
-use Rattle.std.specs.Prelude.{◌≡◌, ℕ, ◌+◌, ◌*◌, ◌%◌, ◌^◌, ◌<◌, max, Bool, cond, ◌&&◌, List, [], ◌∷◌, ◌++◌, length, Some, None, Option, ◌==◌, nat_le, slice_index}
+use Rattle.std.specs.Prelude.{◌≡◌, ℕ, ◌+◌, ◌*◌, ◌%◌, ◌^◌, ◌<◌, max, Bool, cond, ◌&&◌, List, [], ◌∷◌, ◌++◌, length, Some, None, Option, ◌==◌, nat_le, slice_index, sum_by}
 use Rattle.protocol.specs.declared.segment.Segment.{Segment}
 use Rattle.protocol.specs.Lists.{sum_of, kept_by}
 use Rattle.protocol.specs.Segments.{finish, begun_before, ends_past}
@@ -36,8 +36,7 @@ segments (e ∷ past) = elim (made e.answer) [ None ↦ segments past | Some g �
 
 -- how many bytes they have
 abbrev pub bytes : List Segment → ℕ
-bytes [] = 0
-bytes (g ∷ gs) = g.length + bytes gs
+bytes gs = sum_by (λ (g : Segment). g.length) gs
 
 -- the segment that a send of l bytes would make of the words ws: it starts at the bytes sent, and its two nonces come next
 abbrev pub upcoming : List ℕ → History → ℕ → Segment
