@@ -3,20 +3,18 @@ use Rattle.std.proofs.Common.{◌≡◌, ℕ, ◌+◌, ◌*◌, ◌<◌, ◌≤�
 use Rattle.std.proofs.lemmas.Bool.{false≢true}
 use Rattle.std.proofs.lemmas.List.Elements.{All-nil}
 use Rattle.std.proofs.lemmas.Bool.Decides.{nat_tests}
-use Rattle.fault.specs.Refusals.{Refusal}
 use Rattle.congestion.specs.Control.{Control, Lawful}
 use Rattle.protocol.specs.Segments.{starts_at}
 use Rattle.protocol.specs.Claims.{on}
 use Rattle.protocol.specs.Calls.{Call, State, Reply}
 use Rattle.protocol.specs.Calls.Call.{acknowledge}
-use Rattle.protocol.specs.Calls.Answer.{refused}
 use Rattle.protocol.specs.SenderRules.{allowance, opened}
 use Rattle.protocol.specs.History.{History, noted, segments, EndToEnd, farthest}
 use Rattle.protocol.specs.Signals.{signals, credited_once}
 use Rattle.protocol.specs.Duplicates.{starts_counted, beyond, duplicates_since, repeat_due}
 use Rattle.protocol.specs.Runs.{state, history}
 use Rattle.protocol.proofs.Lists.{leads-map}
-use Rattle.protocol.proofs.Steps.{Step, Idle, step}
+use Rattle.protocol.proofs.Steps.{Step, step}
 use Rattle.protocol.proofs.Steps.Step.{refuses, advances, counts, expires, orders, returns}
 use Rattle.protocol.proofs.ClaimTable.{ClaimTable, Lies, claim, true_sum_is, keeps_table}
 use Rattle.protocol.proofs.Signals.{Steered, keeps_steered}
@@ -36,12 +34,8 @@ pub record Follows {C : Type 0} (k : Control C) (c : C) (ws : List ℕ) (s : Sta
   pub waiting : Waiting s h
 
 module _ {C : Type 0} {k : Control C} {c : C} {ws : List ℕ} {s : State C} {h : History} (i : Follows k c ws s h) where
-  idle_proved : (x : Call) (f : Refusal) → Idle s x → s.proved ≡ farthest (noted x (refused f) h)
-  idle_proved (acknowledge e m x) f idle = let same = true_sum_is i.table e in grind (arith, nat_tests)
-  idle_proved other f idle = i.proved
-
   keeps_proved : {x : Call} {r : Reply C} → Step k s x r → r.state.proved ≡ farthest (noted x r.answer h)
-  keeps_proved (refuses {x} {f} idle) = idle_proved x f idle
+  keeps_proved (refuses {x = acknowledge e m x} idle) = let same = true_sum_is i.table e in grind (arith, nat_tests)
   keeps_proved (advances {e} past within same) = let whole = true_sum_is i.table e in grind (arith, nat_tests)
   keeps_proved (counts o true level found) = grind (arith, nat_tests)
   keeps_proved (counts o false level found) = grind (arith, nat_tests)

@@ -2,7 +2,7 @@
 use Rattle.std.proofs.Common.{ℕ, List, ◌∙◌}
 use Rattle.congestion.specs.Control.{Control, Lawful}
 use Rattle.protocol.specs.Calls.{Call, State}
-use Rattle.protocol.specs.Calls.Call.{take, repeat}
+use Rattle.protocol.specs.Calls.Call.{send, take, repeat}
 use Rattle.protocol.specs.SenderRules.{opened}
 use Rattle.protocol.specs.History.{History}
 use Rattle.protocol.specs.Runs.{state, history}
@@ -33,7 +33,7 @@ module _ {C : Type 0} (k : Control C) (c : C) (laws : Lawful k) (ws : List ℕ) 
     proved_is_farthest = λ calls. (kept calls).proved;
     sent_is_bytes = λ calls. (kept calls).table.sent;
     end_to_end = λ calls. (kept calls).joined;
-    two_words_each = λ calls. sent_so (kept calls);
+    two_words_each = λ calls l. sent_so (kept calls) (step k (now calls) (send l));
     single_credit = λ calls. control_is (kept calls);
     never_wider = λ calls others vs same less. rw (control_is (kept calls), control_is (follows k c laws vs others)) (wider laws c (past calls) (history k (opened c vs) others) same less);
     advances_past = λ calls. advanced_so (kept calls);

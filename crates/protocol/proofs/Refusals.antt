@@ -1,5 +1,5 @@
 -- A call is refused on the grounds that the history shows, and on no other, and then changes nothing. Assumes nothing.
-use Rattle.std.proofs.Common.{◌≡◌, ℕ, ◌+◌, ◌-◌, ◌≤◌, eqb, ltb, leb, List, Some, None, Option, sym, refl, ap, ◌∙◌, arith}
+use Rattle.std.proofs.Common.{◌≡◌, ℕ, ◌≤◌, List, Some, None, Option, sym, refl, ap, ◌∙◌, arith}
 use Rattle.std.proofs.lemmas.List.{length-map, length-drop}
 use Rattle.std.proofs.lemmas.Bool.Decides.{nat_tests}
 use Rattle.fault.specs.Refusals.{Refusal}
@@ -38,21 +38,15 @@ module _ {C : Type 0} (k : Control C) (s : State C) where
   pub refused_same : (x : Call) (f : Refusal) → (reply k s x).answer ≡ refused f → (reply k s x).state ≡ s
   refused_same x f is = ap (λ o. (concluded k s x o).state) (sym (refusal_is x) ∙ ap refusal_of is)
 
-too_few : (n m : ℕ) → ltb (n - m) 2 ≡ ltb n (m + 2)
-too_few n m = grind (arith, nat_tests)
-
-none_left : (n m : ℕ) → eqb (n - m) 0 ≡ leb n m
-none_left n m = grind (arith, nat_tests)
-
 module _ {C : Type 0} {k : Control C} {c : C} {ws : List ℕ} {s : State C} {h : History} (i : Follows k c ws s h) where
   pub same_grounds : (x : Call) → first_refusal (checks k s x) ≡ first_refusal (grounds k c ws h x)
-  same_grounds (send l) = rw (i.steered.size, control_is i, i.table.claims, length-map, i.table.words, length-drop, too_few, i.duplicates, i.table.sent, i.proved) refl
+  same_grounds (send l) = rw (i.steered.size, control_is i, i.table.claims, length-map, i.table.words, length-drop, i.duplicates, i.table.sent, i.proved) (grind (arith, nat_tests))
   same_grounds (acknowledge e m x) =
       let known = any_claim i.table (on (echoed_past s.proved x)) (λ g passes. grind (arith, nat_tests)) in
       let fresh = any_claim i.table (unspent s.proved x) (λ g passes. grind (arith, nat_tests)) in
       let whole : farthest h ≤ e → true_sum s e ≡ sum_before e (segments h) = (λ past. true_sum_is i.table e (omega (arith, i.proved))) in
       rw (known, fresh, i.table.sent, i.proved) (grind (arith, nat_tests))
-  same_grounds timeout = rw (none_left, i.table.sent, i.proved) refl
+  same_grounds timeout = rw (i.table.sent, i.proved) (grind (arith, nat_tests))
   same_grounds take = rw (i.due, i.table.sent) refl
   same_grounds (repeat o) = rw (i.table.claims, any-map (claim (starts_counted h)) (on (starts_at o)), i.proved) refl
   same_grounds (put_back o) = refl

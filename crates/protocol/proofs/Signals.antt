@@ -21,29 +21,25 @@ module _ {C : Type 0} {k : Control C} (laws : Lawful k) where
   signalled_keeps loss = laws.loss_keeps
   signalled_keeps expiry = laws.timeout_keeps
 
-  module _ {c d : C} {e : ℕ} {given : List Signal} (i : Steered k c d e given) where
+  module _ {c : C} (s : State C) (h : History) (i : Steered k c s.control s.proved (signals h)) (proved : s.proved ≡ farthest h) (sent : s.sent ≡ bytes (segments h)) where
     -- two credits are one
-    credited_more : (a : ℕ) → e ≤ a → Steered k c (k.credit d (a - e)) a given
-    credited_more a past = record {
+    credited_more : (e : ℕ) → s.proved ≤ e → Steered k c (k.credit s.control (e - s.proved)) e (signals h)
+    credited_more e past = record {
       risen = omega (arith, i.risen);
-      credited = ap (λ b. k.credit b (a - e)) i.credited ∙ laws.together _ _ _ ∙ ap (k.credit (after_signals k c given)) (omega (arith, i.risen));
+      credited = rw (i.credited, laws.together) (ap (k.credit (after_signals k c (signals h))) (omega (arith, i.risen)));
       size = laws.credit_keeps _ _ ∙ i.size;
     }
 
     -- after a signal nothing is credited yet
-    told_more : (kind : Kind) (at sent : ℕ) → e ≡ at → Steered k c (signalled k kind d (sent - e)) e (record { kind = kind; proved = at; sent = sent } ∷ given)
-    told_more kind at sent same = record {
-      risen = omega arith;
-      credited = rw (← same, sub_self, laws.nothing) (ap (λ b. signalled k kind b (sent - e)) i.credited);
+    tells_now : (kind : Kind) → Steered k c (signalled k kind s.control (in_flight s)) s.proved (record { kind = kind; proved = farthest h; sent = bytes (segments h) } ∷ signals h)
+    tells_now kind = record {
+      risen = omega (arith, proved);
+      credited = rw (← proved, ← sent, sub_self, laws.nothing) (ap (λ d. signalled k kind d (in_flight s)) i.credited);
       size = signalled_keeps kind _ _ ∙ i.size;
     }
 
-  module _ {c : C} (s : State C) (h : History) (i : Steered k c s.control s.proved (signals h)) (proved : s.proved ≡ farthest h) (sent : s.sent ≡ bytes (segments h)) where
-    tells_now : (kind : Kind) → Steered k c (signalled k kind s.control (in_flight s)) s.proved (record { kind = kind; proved = farthest h; sent = bytes (segments h) } ∷ signals h)
-    tells_now kind = rw (← sent) (told_more i kind (farthest h) s.sent proved)
-
     pub keeps_steered : {x : Call} {r : Reply C} → Step k s x r → Steered k c r.state.control r.state.proved (signals (noted x r.answer h))
-    keeps_steered (advances {e} past within same) = credited_more i e (omega arith)
+    keeps_steered (advances {e} past within same) = credited_more e (omega arith)
     keeps_steered (counts o true level found) = tells_now loss
     keeps_steered (expires past) = tells_now expiry
     keeps_steered other = i
@@ -55,4 +51,4 @@ module _ {C : Type 0} {k : Control C} (laws : Lawful k) where
 
   -- after the same signals, the farther end has the wider window
   pub wider : (c : C) (h j : History) → signals h ≡ signals j → farthest h ≤ farthest j → k.window (credited_once k c h) ≤ k.window (credited_once k c j)
-  wider c h j same less = rw (credited_once, same) (wider_credit (after_signals k c (signals j)) (farthest h - proved_then (signals j)) (farthest j - proved_then (signals j)) (omega arith))
+  wider c h j same less = rw (credited_once, same) (wider_credit _ _ _ (omega arith))
