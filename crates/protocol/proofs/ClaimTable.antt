@@ -13,7 +13,7 @@ use Rattle.protocol.specs.declared.segment.Segment.{Segment}
 use Rattle.protocol.specs.declared.segment.Claim.{Claim}
 use Rattle.protocol.specs.Lists.{any, sum_of, member, kept_by}
 use Rattle.protocol.specs.Segments.{finish, begun_before, ends_by, ends_past, starts_at, echoed_past}
-use Rattle.protocol.specs.Claims.{on, nonce, unspent, spend}
+use Rattle.protocol.specs.Claims.{on, nonce, unspent}
 use Rattle.protocol.specs.Calls.{Call, State, Reply}
 use Rattle.protocol.specs.SenderRules.{true_sum, after_send, after_advance, after_duplicate}
 use Rattle.protocol.specs.History.{History, noted, segments, bytes, sum_before}
@@ -50,9 +50,8 @@ module _ {C : Type 0} {ws : List ℕ} {s : State C} {gs : List Segment} {os : Li
   sums : (p : Segment → Bool) → ((g : Segment) → Lies s.sent g → ends_by s.proved g ≡ true → p g ≡ true) →
       (s.settled + sum_of (on p) nonce s.claims) % 2 ^ 64 ≡ sum_of p (λ g. g.summed) gs % 2 ^ 64
   sums p wide =
-      let claimed = ap (sum_of (on p) nonce) t.claims ∙ sum_of-map (claim os) (on p) nonce pending in
       let whole = sum_split (ends_by s.proved) p (ends_past s.proved) (λ g. g.summed) gs (λ g. grind (arith, nat_tests)) (λ k d within. wide (get_or gs k d) (t.lie k d within)) in
-      rw (t.settled, claimed, mod-add-mod, whole) refl
+      rw (t.settled, t.claims, sum_of-map (claim os) (on p) nonce, mod-add-mod, whole) refl
 
   pub true_sum_is : (e : ℕ) → s.proved ≤ e → true_sum s e ≡ sum_before e gs
   true_sum_is e past = sums (begun_before e) (λ g lies by. grind (arith, nat_tests))
@@ -79,7 +78,7 @@ module _ {C : Type 0} {ws : List ℕ} {s : State C} {gs : List Segment} {os : Li
   sent_table : (g : Segment) → g.start ≡ s.sent → 0 < g.length → ClaimTable ws (after_send s g) (gs ++ (g ∷ [])) os
   sent_table g here some = record {
     sent = omega (arith, sum_by_push (λ (f : Segment). f.length) gs g, t.sent);
-    words = ap (drop 2) t.words ∙ drop-drop 2 (2 * length gs) ws ∙ ap (λ n. drop n ws) (omega (arith, length_push gs g));
+    words = rw (t.words, drop-drop, length_push) (ap (λ n. drop n ws) (omega arith));
     within = omega (arith, t.within);
     lie = All-push (Lies (s.sent + g.length)) gs g (λ k d within. let lies = t.lie k d within in omega arith) (omega arith);
     seen = λ k d within. let below = t.seen k d within in omega arith;
@@ -97,9 +96,7 @@ module _ {C : Type 0} {ws : List ℕ} {s : State C} {gs : List Segment} {os : Li
     within = within;
     lie = t.lie;
     seen = t.seen;
-    claims =
-        let fewer = kept_twice (ends_past e) (ends_past s.proved) (λ g by. grind (arith, nat_tests)) gs in
-        ap (kept_by (on (ends_past e))) t.claims ∙ kept_map (claim os) (on (ends_past e)) pending ∙ ap (map (claim os)) fewer;
+    claims = rw (t.claims, kept_map (claim os) (on (ends_past e)), kept_twice (ends_past e) (ends_past s.proved) (λ g by. grind (arith, nat_tests))) refl;
     settled = sums (ends_by e) (λ g lies by. grind (arith, nat_tests));
   }
 
@@ -110,7 +107,7 @@ module _ {C : Type 0} {ws : List ℕ} {s : State C} {gs : List Segment} {os : Li
     within = t.within;
     lie = t.lie;
     seen = All-cons (λ p. p < s.sent) o os (found_new x o found).0 t.seen;
-    claims = ap (spend o) t.claims ∙ map-map (claim os) _ pending;
+    claims = rw (t.claims, map-map) refl;
     settled = t.settled;
   }
 

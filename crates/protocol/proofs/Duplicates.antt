@@ -55,6 +55,5 @@ module _ {C : Type 0} {ws : List ℕ} {s : State C} (h : History) (t : ClaimTabl
         }
 
     pub counted_so : {k : Control C} {x : Call} {r : Reply C} → Step k s x r → (o : ℕ) → counted_for r.answer ≡ Some o → Counted h x o
-    counted_so (counts q true level found) o is = found_counted (cc) found
-    counted_so (counts q false level found) o is = found_counted (cc) found
+    counted_so (counts q third level found) o is = found_counted (grind arith) found
     counted_so other o is = grind arith

@@ -1,5 +1,5 @@
 -- What ties a state to the history that led to it, and that every call keeps it. Assumes nothing.
-use Rattle.std.proofs.Common.{◌≡◌, ℕ, ◌+◌, ◌*◌, ◌<◌, ◌≤◌, true, false, List, [], ◌∷◌, sym, refl, ap, mul-le-mul_left, arith}
+use Rattle.std.proofs.Common.{◌≡◌, ℕ, ◌+◌, ◌*◌, ◌<◌, ◌≤◌, true, List, [], ◌∷◌, sym, refl, mul-le-mul_left, arith}
 use Rattle.std.proofs.lemmas.Bool.{false≢true}
 use Rattle.std.proofs.lemmas.List.Elements.{All-nil}
 use Rattle.std.proofs.lemmas.Bool.Decides.{nat_tests}
@@ -37,14 +37,12 @@ module _ {C : Type 0} {k : Control C} {c : C} {ws : List ℕ} {s : State C} {h :
   keeps_proved : {x : Call} {r : Reply C} → Step k s x r → r.state.proved ≡ farthest (noted x r.answer h)
   keeps_proved (refuses {x = acknowledge e m x} idle) = let same = true_sum_is i.table e in grind (arith, nat_tests)
   keeps_proved (advances {e} past within same) = let whole = true_sum_is i.table e in grind (arith, nat_tests)
-  keeps_proved (counts o true level found) = grind (arith, nat_tests)
-  keeps_proved (counts o false level found) = grind (arith, nat_tests)
+  keeps_proved (counts o third level found) = grind (arith, nat_tests)
   keeps_proved other = i.proved
 
   keeps_duplicates : {x : Call} {r : Reply C} → Step k s x r → r.state.duplicates ≡ duplicates_since (noted x r.answer h)
   keeps_duplicates (advances past within same) = refl
-  keeps_duplicates (counts o true level found) = ap (λ n. n + 1) i.duplicates
-  keeps_duplicates (counts o false level found) = ap (λ n. n + 1) i.duplicates
+  keeps_duplicates (counts o third level found) = grind (arith, i.duplicates)
   keeps_duplicates (expires past) = refl
   keeps_duplicates other = i.duplicates
 

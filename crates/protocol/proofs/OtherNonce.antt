@@ -16,7 +16,7 @@ use Rattle.protocol.specs.Checks.{first_refusal}
 use Rattle.protocol.specs.Calls.{Call, State, Reply, if_acknowledge}
 use Rattle.protocol.specs.Calls.Call.{send, acknowledge, repeat, put_back}
 use Rattle.protocol.specs.Calls.Answer.{counted, lost}
-use Rattle.protocol.specs.SenderRules.{checks, after_advance, after_duplicate, acknowledged, accepted, concluded, reply}
+use Rattle.protocol.specs.SenderRules.{checks, acknowledged, accepted, concluded, reply}
 use Rattle.protocol.specs.History.{History, noted, segments}
 use Rattle.protocol.specs.Duplicates.{starts_counted}
 use Rattle.protocol.specs.Promises.{reaches}
@@ -57,24 +57,10 @@ module _ {C : Type 0} {ws : List ℕ} {s : State C} {gs : List Segment} {os : Li
   claims_lie : All (λ c. Lies s.sent c.segment) s.claims
   claims_lie = rw t.claims (All-map (λ c. Lies s.sent c.segment) (claim os) (kept_by (ends_past s.proved) gs) (All-filter (ends_past s.proved) (Lies s.sent) gs t.lie))
 
-  module _ (k : Control C) (o v : ℕ) (vs : List ℕ) where
-    -- a sum over claims that start before o
-    same_sum : (p : Claim → Bool) → Blind o v p → ((c : Claim) → Lies s.sent c.segment → p c ≡ true → c.segment.start < o) →
-        sum_of p nonce (map (renonced o v) s.claims) ≡ sum_of p nonce s.claims
-    same_sum p blind before = sum_renonced o v p blind s.claims (λ k d within passes. let less = before _ (claims_lie k d within) passes in grind (arith, nat_tests))
-
-    same_checks : (e m x : ℕ) → e ≤ o → first_refusal (checks k (other o v vs s) (acknowledge e m x)) ≡ first_refusal (checks k s (acknowledge e m x))
-    same_checks e m x upto =
-        let summed = same_sum (on (begun_before e)) (λ c. refl) (λ c lies by. grind (arith, nat_tests)) in
-        rw (summed, any-map (renonced o v) (on (echoed_past s.proved x)), any-map (renonced o v) (unspent s.proved x)) refl
-
-    same_advance : (e : ℕ) → e ≤ o → after_advance k (other o v vs s) e ≡ other o v vs (after_advance k s e)
-    same_advance e upto =
-        let summed = same_sum (on (ends_by e)) (λ c. refl) (λ c lies by. grind (arith, nat_tests)) in
-        rw (summed, kept_map (renonced o v) (on (ends_past e))) refl
-
-    same_duplicate : (q : ℕ) (third : Bool) → after_duplicate k (other o v vs s) q third ≡ other o v vs (after_duplicate k s q third)
-    same_duplicate q third = rw (map-map, map-map) refl
+  -- a sum over claims that start before o
+  same_sum : (o v : ℕ) (p : Claim → Bool) → Blind o v p → ((c : Claim) → Lies s.sent c.segment → p c ≡ true → c.segment.start < o) →
+      sum_of p nonce (map (renonced o v) s.claims) ≡ sum_of p nonce s.claims
+  same_sum o v p blind before = sum_renonced o v p blind s.claims (λ k d within passes. let less = before _ (claims_lie k d within) passes in grind (arith, nat_tests))
 
 -- N segments were sent before the one at o, which is to draw v
 module _ {C : Type 0} (k : Control C) (o v N : ℕ) (ws : List ℕ) (room : 2 * N < length ws) where
@@ -88,9 +74,6 @@ module _ {C : Type 0} (k : Control C) (o v N : ℕ) (ws : List ℕ) (room : 2 * 
     abbrev after : Call → Reply C → State C
     after x r = other o v (left (noted x r.answer h)) r.state
 
-    words_left : length (left h) ≡ length s.words
-    words_left = rw t.words (simp (length-drop, length-set))
-
     first_word : get_or (left h) 0 0 ≡ cond (eqb s.sent o) v (get_or s.words 0 0)
     first_word =
         let here = get_or-set_same ws (2 * N) v 0 room in
@@ -101,21 +84,16 @@ module _ {C : Type 0} (k : Control C) (o v N : ℕ) (ws : List ℕ) (room : 2 * 
     second_word = rw t.words (simp get_or-drop (get_or-set_other ws (2 * N) (2 * length (segments h) + 1) v 0 (omega arith)))
 
     same_first : (x : Call) → Upto o x → first_refusal (checks k now x) ≡ first_refusal (checks k s x)
-    same_first (send l) upto = rw (length-map, words_left) refl
-    same_first (acknowledge e m x) upto = same_checks t k o v (left h) e m x upto
+    same_first (send l) upto = rw (length-map, t.words) (simp (length-drop, length-set))
+    same_first (acknowledge e m x) upto =
+        let summed = same_sum t o v (on (begun_before e)) (λ c. refl) (λ c lies by. grind (arith, nat_tests)) in
+        rw (summed, any-map (renonced o v) (on (echoed_past s.proved x)), any-map (renonced o v) (unspent s.proved x)) refl
     same_first (repeat q) upto = rw (any-map (renonced o v) (on (starts_at q))) refl
     same_first x upto = refl
 
     -- a duplicate makes no segment
     no_segment : (x : Call) (q : ℕ) (third : Bool) → segments (noted x (cond third (lost q) (counted q)) h) ≡ segments h
-    no_segment x q true = refl
-    no_segment x q false = refl
-
-    same_counted : (e m x : ℕ) → (acknowledged k now e x false).state ≡ after (acknowledge e m x) (acknowledged k s e x false)
-    same_counted e m x =
-        let q = oldest (unspent s.proved x) s.claims in
-        let third = eqb s.duplicates 2 in
-        rw (oldest_renonced o v (unspent s.proved x) (λ c. refl), no_segment (acknowledge e m x) q third) (same_duplicate t k o v (left h) q third)
+    no_segment x q third = grind arith
 
     same_accepted : (x : Call) → Upto o x → (accepted k now x).state ≡ after x (accepted k s x)
     same_accepted (send l) upto =
@@ -124,8 +102,12 @@ module _ {C : Type 0} (k : Control C) (o v N : ℕ) (ws : List ℕ) (room : 2 * 
     same_accepted (acknowledge e m x) upto = go (ltb s.proved e)
       where
         go : (past : Bool) → (acknowledged k now e x past).state ≡ after (acknowledge e m x) (acknowledged k s e x past)
-        go true = same_advance t k o v (left h) e upto
-        go false = same_counted e m x
+        go true =
+            let summed = same_sum t o v (on (ends_by e)) (λ c. refl) (λ c lies by. grind (arith, nat_tests)) in
+            rw (summed, kept_map (renonced o v) (on (ends_past e))) refl
+        go false =
+            let none = no_segment (acknowledge e m x) (oldest (unspent s.proved x) s.claims) (eqb s.duplicates 2) in
+            rw (oldest_renonced o v (unspent s.proved x) (λ c. refl), none, map-map, map-map) refl
     same_accepted (put_back q) upto = rw (leads-map (renonced o v) (on (starts_at q))) refl
     same_accepted x upto = refl
 

@@ -1,5 +1,5 @@
 -- Where its signals and the proved end leave a lawful controller: the only place that the laws are used. Assumes nothing.
-use Rattle.std.proofs.Common.{◌≡◌, ℕ, ◌+◌, ◌-◌, ◌≤◌, true, List, ◌∷◌, ap, ◌∙◌, arith}
+use Rattle.std.proofs.Common.{◌≡◌, ℕ, ◌-◌, ◌≤◌, true, List, ◌∷◌, ap, ◌∙◌, arith}
 use Rattle.std.proofs.Math.Nat.{sub_self}
 use Rattle.congestion.specs.Control.{Control, Lawful}
 use Rattle.protocol.specs.Calls.{Call, State, Reply}
@@ -45,9 +45,7 @@ module _ {C : Type 0} {k : Control C} (laws : Lawful k) where
     keeps_steered other = i
 
   wider_credit : (d : C) (a b : ℕ) → a ≤ b → k.window (k.credit d a) ≤ k.window (k.credit d b)
-  wider_credit d a b less =
-      let sum : a + (b - a) ≡ b = omega arith in
-      rw (laws.together d a (b - a), sum) at (laws.widens (k.credit d a) (b - a))
+  wider_credit d a b less = grind (arith, laws.together d a (b - a), laws.widens (k.credit d a) (b - a))
 
   -- after the same signals, the farther end has the wider window
   pub wider : (c : C) (h j : History) → signals h ≡ signals j → farthest h ≤ farthest j → k.window (credited_once k c h) ≤ k.window (credited_once k c j)
