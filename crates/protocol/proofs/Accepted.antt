@@ -1,5 +1,5 @@
 -- What is answered to a send and to an acknowledgement that are not refused. Assumes nothing.
-use Rattle.std.proofs.Common.{◌≡◌, ℕ, ◌<◌, Bool, true, false, cond, eqb, ltb, List, [], ◌∷◌, map, Some, None, refl, ap, ◌∙◌, add-zero, arith}
+use Rattle.std.proofs.Common.{◌≡◌, ℕ, ◌<◌, Bool, true, false, cond, eqb, ltb, List, [], ◌∷◌, map, Some, None, refl, add-zero, arith}
 use Rattle.std.proofs.lemmas.List.{get_or-drop}
 use Rattle.std.proofs.lemmas.Bool.Decides.{nat_tests}
 use Rattle.congestion.specs.Control.{Control}
@@ -37,7 +37,7 @@ module _ {C : Type 0} {k : Control C} {c : C} {ws : List ℕ} {s : State C} {h :
 
   module _ (e m x : ℕ) (none : refusal_of (reply k s (acknowledge e m x)).answer ≡ None) where
     acknowledged_so : (past : Bool) → ltb (farthest h) e ≡ past → (reply k s (acknowledge e m x)).answer ≡ (acknowledged k s e x past).answer
-    acknowledged_so past is = ap (λ r. r.answer) (accepted_is k s (acknowledge e m x) none) ∙ ap (λ b. (acknowledged k s e x b).answer) (ap (λ a. ltb a e) i.proved ∙ is)
+    acknowledged_so past is = rw (accepted_is k s (acknowledge e m x) none, i.proved, is) refl
 
     pub advanced_so : farthest h < e → (reply k s (acknowledge e m x)).answer ≡ advanced
     advanced_so past = acknowledged_so true (grind (arith, nat_tests))

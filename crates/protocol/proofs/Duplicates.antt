@@ -7,7 +7,6 @@ use Rattle.protocol.specs.declared.segment.Segment.{Segment}
 use Rattle.protocol.specs.Lists.{count, member}
 use Rattle.protocol.specs.Segments.{starts_at}
 use Rattle.protocol.specs.Calls.{Call, State, Reply}
-use Rattle.protocol.specs.Calls.Call.{acknowledge}
 use Rattle.protocol.specs.History.{History, noted, segments, farthest}
 use Rattle.protocol.specs.Duplicates.{counted_for, starts_counted, beyond, Counted}
 use Rattle.protocol.proofs.Lists.{any_wider, count_wider, count_more}
@@ -45,15 +44,13 @@ module _ {C : Type 0} {ws : List ℕ} {s : State C} (h : History) (t : ClaimTabl
     duplicates_bounded backed =
         omega (arith, count_wider (used s.proved (starts_counted h)) (λ g. ltb (farthest h) g.start) (λ g passes. grind (arith, nat_tests)) (segments h))
 
-    found_counted : {e m x q o : ℕ} → q ≡ o → Found s x q → Counted h (acknowledge e m x) o
-    found_counted {x} {q} {o} same found =
+    pub counted_so : {k : Control C} {x : Call} {r : Reply C} → Step k s x r → (o : ℕ) → counted_for r.answer ≡ Some o → Counted h x o
+    counted_so (counts {x} q third level found) o is =
+        let same : q ≡ o = grind arith in
         let new = found_new t x q found in
         record {
           beyond_proved = omega arith;
           first_time = rw same at new.2;
           by_its_echo = any_wider _ (λ g. starts_at o g && eqb g.single x) (λ g passes. grind (arith, nat_tests)) (segments h) (found_segment t x q found);
         }
-
-    pub counted_so : {k : Control C} {x : Call} {r : Reply C} → Step k s x r → (o : ℕ) → counted_for r.answer ≡ Some o → Counted h x o
-    counted_so (counts q third level found) o is = found_counted (grind arith) found
     counted_so other o is = grind arith

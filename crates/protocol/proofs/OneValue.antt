@@ -1,5 +1,5 @@
 -- Of the 2^64 values of a summed nonce, one gets the first acknowledgement past its segment's start accepted. Assumes nothing.
-use Rattle.std.proofs.Common.{◌≡◌, ℕ, ◌+◌, ◌-◌, ◌*◌, ◌%◌, ◌^◌, ◌<◌, ◌≤◌, false, cond, eqb, List, [], ◌∷◌, ◌++◌, length, set, sym, refl, ap, ◌∙◌, arith}
+use Rattle.std.proofs.Common.{◌≡◌, ℕ, ◌+◌, ◌-◌, ◌*◌, ◌%◌, ◌^◌, ◌<◌, ◌≤◌, false, cond, eqb, List, [], ◌∷◌, ◌++◌, length, set, refl, ap, ◌∙◌, arith}
 use Rattle.std.proofs.lemmas.Bool.Decides.{nat_tests}
 use Rattle.congestion.specs.Control.{Control, Lawful}
 use Rattle.protocol.specs.declared.segment.Segment.{Segment}
@@ -20,7 +20,7 @@ use Rattle.protocol.proofs.Steps.{step}
 use Rattle.protocol.proofs.ClaimTable.{ClaimTable, claim}
 use Rattle.protocol.proofs.Invariant.{follows}
 use Rattle.protocol.proofs.Refusals.{refusal_is}
-use Rattle.protocol.proofs.Unreached.{Early, Held, unreached, earlier, drew, first_held, still_held}
+use Rattle.protocol.proofs.Unreached.{Early, Held, unreached, earlier, drew, still_held}
 use Rattle.protocol.proofs.OtherNonce.{renonced, other, left, other_reply}
 
 -- a sum modulo 2^64 has one value for each of its terms
@@ -63,11 +63,11 @@ module _ {C : Type 0} (k : Control C) (c : C) (laws : Lawful k) (ws : List ℕ) 
     abbrev Quiet : List Call → Type 0
     Quiet after = Unreached k (opened c ws) before l g.start after
 
-    drawn : ((now before).sent ≡ g.start) × (2 * N < length ws)
+    drawn : ((now before).sent ≡ g.start) × (2 * N < length ws) × Held g.start N (segments (past (calls []))) (now (calls [])).sent (now (calls [])).proved
     drawn = drew (past before) (tabled before) (step k (now before) (send l)) is
 
     held : (after : List Call) → Quiet after → Held g.start N (segments (past (calls after))) (now (calls after)).sent (now (calls after)).proved
-    held [] quiet = first_held (past before) (tabled before) (step k (now before) (send l)) is drawn.0 refl
+    held [] quiet = drawn.2
     held (x ∷ after) quiet = still_held (past (calls after)) (tabled (calls after)) (step k (now (calls after)) x) (held after quiet.1) quiet.0
 
     alike_after : (v : ℕ) (after : List Call) → Quiet after → Alike g.start v N drawn.1 (calls after)
@@ -105,7 +105,7 @@ module _ {C : Type 0} (k : Control C) (c : C) (laws : Lawful k) (ws : List ℕ) 
           rw (sum_of-map (renonced g.start v) (on (begun_before e)) nonce, apart, one_claim) (omega arith)
 
       checked : (v : ℕ) → refusal_of (answer k (opened c (set ws (2 * N) v)) (calls after) (acknowledge e m x)) ≡ first_refusal (checks k (having v) (acknowledge e m x))
-      checked v = refusal_is k (state k (opened c (set ws (2 * N) v)) (calls after)) (acknowledge e m x) ∙ ap (λ s. first_refusal (checks k s (acknowledge e m x))) (alike_after v after quiet)
+      checked v = rw (refusal_is, alike_after v after quiet) refl
 
       abbrev Accepts : ℕ → Type 0
       Accepts = Passes k (opened c ws) before l after (acknowledge e m x)
@@ -119,7 +119,7 @@ module _ {C : Type 0} (k : Control C) (c : C) (laws : Lawful k) (ws : List ℕ) 
 
       accepted : (v : ℕ) → Accepts v → m ≡ (rest + v) % 2 ^ 64
       accepted v pass =
-          let none = sym (checked v) ∙ pass in
+          let none = rw (checked v) at pass in
           let sum = sum_having v in
           grind (arith, nat_tests)
 

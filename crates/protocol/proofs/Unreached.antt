@@ -41,24 +41,23 @@ module _ {C : Type 0} {k : Control C} {s : State C} (h : History) where
   earlier other o N early = early
 
   module _ {ws : List ℕ} (t : ClaimTable ws s (segments h) (starts_counted h)) where
-    -- an answered send: where its segment starts, and that there were words for it
-    pub drew : {l : ℕ} {r : Reply C} → Step k s (send l) r → {g : Segment} → r.answer ≡ sent g → (s.sent ≡ g.start) × (2 * length (segments h) < length ws)
-    drew (refuses idle) is = grind arith
+    -- an answered send: where its segment starts, that there were words for it, and that it is held
+    pub drew : {l : ℕ} {r : Reply C} → Step k s (send l) r → {g : Segment} → r.answer ≡ sent g →
+        (s.sent ≡ g.start) × (2 * length (segments h) < length ws) × Held g.start (length (segments h)) (segments (noted (send l) r.answer h)) r.state.sent r.state.proved
+    drew (refuses idle) is = absurd (grind arith)
     drew (sends {l} some enough) {g} is =
         let same : next s l ≡ g = cc in
-        (ap (λ f. f.start) same, omega (arith, length-drop (2 * length (segments h)) ws, ap length t.words))
-
-    pub first_held : {l : ℕ} {r : Reply C} → Step k s (send l) r → {g : Segment} → r.answer ≡ sent g → {o N : ℕ} → s.sent ≡ o → length (segments h) ≡ N →
-        Held o N (segments (noted (send l) r.answer h)) r.state.sent r.state.proved
-    first_held (refuses idle) is at all = grind arith
-    first_held (sends {l} some enough) is {o} at all =
-        let none = sum_by-le (λ f. cond (starts_at o f) 1 0) 0 (segments h) (λ k d within. let lies = t.lie k d within in grind (arith, nat_tests)) in
-        record {
-          later = omega (arith, length_push (segments h) (next s l));
-          beyond = omega arith;
-          unproved = omega (arith, t.within);
-          one = sum_by_push (λ f. cond (starts_at o f) 1 0) (segments h) (next s l) ∙ grind (arith, nat_tests);
-        }
+        let at : s.sent ≡ g.start = ap (λ f. f.start) same in
+        let none = sum_by-le (λ f. cond (starts_at g.start f) 1 0) 0 (segments h) (λ k d within. let lies = t.lie k d within in grind (arith, nat_tests)) in (
+          at,
+          omega (arith, length-drop (2 * length (segments h)) ws, ap length t.words),
+          record {
+            later = omega (arith, length_push (segments h) (next s l));
+            beyond = omega arith;
+            unproved = omega (arith, t.within);
+            one = sum_by_push (λ f. cond (starts_at g.start f) 1 0) (segments h) (next s l) ∙ grind (arith, nat_tests);
+          },
+        )
 
     pub still_held : {x : Call} {r : Reply C} → Step k s x r → {o N : ℕ} → Held o N (segments h) s.sent s.proved → reaches o x h ≡ false →
         Held o N (segments (noted x r.answer h)) r.state.sent r.state.proved
