@@ -43,7 +43,7 @@ pub record ClaimTable {C : Type 0} (ws : List ℕ) (s : State C) (gs : List Segm
 
 module _ {C : Type 0} {ws : List ℕ} {s : State C} {gs : List Segment} {os : List ℕ} (t : ClaimTable ws s gs os) where
   -- not acknowledged to the end
-  abbrev pending : List Segment
+  abbrev pub pending : List Segment
   pending = kept_by (ends_past s.proved) gs
 
   -- the kept sum and the claims make the sum over all segments, for a test that all acknowledged ones pass

@@ -92,7 +92,9 @@ module _ {C : Type 0} (k : Control C) (c : C) (laws : Lawful k) (ws : List ℕ) 
           let gs = segments (past (calls after)) in
           let t = tabled (calls after) in
           let there = held after quiet in
-          rw (t.claims, sum_of-map (claim (starts_counted (past (calls after)))) (on (starts_at g.start)) (λ d. 1)) (count_kept (starts_at g.start) (ends_past here.proved) gs (λ k d within at. let lies = t.lie k d within in let u = there.unproved in grind (arith, nat_tests)) ∙ there.one)
+          let unproved = there.unproved in
+          let kept = count_kept (starts_at g.start) (ends_past here.proved) gs (λ i d within at. let lies = t.lie i d within in grind (arith, nat_tests)) in
+          rw (t.claims, sum_of-map (claim (starts_counted (past (calls after)))) (on (starts_at g.start)) (λ d. 1), kept) there.one
 
       -- the true sum without that nonce
       rest : ℕ

@@ -57,11 +57,6 @@ module _ {C : Type 0} {ws : List ℕ} {s : State C} {gs : List Segment} {os : Li
   claims_lie : All (λ c. Lies s.sent c.segment) s.claims
   claims_lie = rw t.claims (All-map (λ c. Lies s.sent c.segment) (claim os) (kept_by (ends_past s.proved) gs) (All-filter (ends_past s.proved) (Lies s.sent) gs t.lie))
 
-  -- a sum over claims that start before o
-  same_sum : (o v : ℕ) (p : Claim → Bool) → Blind o v p → ((c : Claim) → Lies s.sent c.segment → p c ≡ true → c.segment.start < o) →
-      sum_of p nonce (map (renonced o v) s.claims) ≡ sum_of p nonce s.claims
-  same_sum o v p blind before = sum_renonced o v p blind s.claims (λ k d within passes. let less = before _ (claims_lie k d within) passes in grind (arith, nat_tests))
-
 -- N segments were sent before the one at o, which is to draw v
 module _ {C : Type 0} (k : Control C) (o v N : ℕ) (ws : List ℕ) (room : 2 * N < length ws) where
   abbrev pub left : History → List ℕ
@@ -86,7 +81,7 @@ module _ {C : Type 0} (k : Control C) (o v N : ℕ) (ws : List ℕ) (room : 2 * 
     same_first : (x : Call) → Upto o x → first_refusal (checks k now x) ≡ first_refusal (checks k s x)
     same_first (send l) upto = rw (length-map, t.words) (simp (length-drop, length-set))
     same_first (acknowledge e m x) upto =
-        let summed = same_sum t o v (on (begun_before e)) (λ c. refl) (λ c lies by. grind (arith, nat_tests)) in
+        let summed = sum_renonced o v (on (begun_before e)) (λ c. refl) s.claims (λ i d within by. grind (arith, nat_tests)) in
         rw (summed, any-map (renonced o v) (on (echoed_past s.proved x)), any-map (renonced o v) (unspent s.proved x)) refl
     same_first (repeat q) upto = rw (any-map (renonced o v) (on (starts_at q))) refl
     same_first x upto = refl
@@ -103,7 +98,7 @@ module _ {C : Type 0} (k : Control C) (o v N : ℕ) (ws : List ℕ) (room : 2 * 
       where
         go : (past : Bool) → (acknowledged k now e x past).state ≡ after (acknowledge e m x) (acknowledged k s e x past)
         go true =
-            let summed = same_sum t o v (on (ends_by e)) (λ c. refl) (λ c lies by. grind (arith, nat_tests)) in
+            let summed = sum_renonced o v (on (ends_by e)) (λ c. refl) s.claims (λ i d within by. let lies = claims_lie t i d within in grind (arith, nat_tests)) in
             rw (summed, kept_map (renonced o v) (on (ends_past e))) refl
         go false =
             let none = no_segment (acknowledge e m x) (oldest (unspent s.proved x) s.claims) (eqb s.duplicates 2) in

@@ -18,7 +18,7 @@ use Rattle.protocol.specs.Duplicates.{starts_counted}
 use Rattle.protocol.proofs.Lists.{leads-map, any_wider}
 use Rattle.protocol.proofs.Steps.{Step, Found}
 use Rattle.protocol.proofs.Steps.Step.{refuses, sends, advances, counts, expires, orders, repeats, returns}
-use Rattle.protocol.proofs.ClaimTable.{ClaimTable, claim, found_segment}
+use Rattle.protocol.proofs.ClaimTable.{ClaimTable, claim, pending, found_segment}
 use Rattle.protocol.proofs.Stream.{one_past}
 
 -- a repeat is due only while a segment is outstanding
@@ -64,15 +64,15 @@ module _ (os : List ℕ) where
 
 module _ {C : Type 0} {k : Control C} {ws : List ℕ} {s : State C} {gs : List Segment} {os : List ℕ} (t : ClaimTable ws s gs os) where
   -- an order names the oldest
-  pub order_is : (s.due ≡ true → any (ends_past s.proved) gs ≡ true) → {r : Reply C} → Step k s take r → (o : ℕ) → r.answer ≡ ordered o → leads (starts_at o) (kept_by (ends_past s.proved) gs) ≡ true
+  pub order_is : (s.due ≡ true → any (ends_past s.proved) gs ≡ true) → {r : Reply C} → Step k s take r → (o : ℕ) → r.answer ≡ ordered o → leads (starts_at o) (pending t) ≡ true
   order_is waiting (refuses idle) o is = grind arith
   order_is waiting (orders due) o is =
-      let same : oldest (λ c. true) (map (claim os) (kept_by (ends_past s.proved) gs)) ≡ o = rw (← t.claims) (cc) in
+      let same : oldest (λ c. true) (map (claim os) (pending t)) ≡ o = rw (← t.claims) (cc) in
       rw same at (first_leads os (ends_past s.proved) gs (waiting due))
 
   -- a repeat answers an outstanding segment
-  pub repeat_is : {o : ℕ} {r : Reply C} → Step k s (repeat o) r → (g : Segment) → r.answer ≡ repeated g → Contains (kept_by (ends_past s.proved) gs) g × (g.start ≡ o)
+  pub repeat_is : {o : ℕ} {r : Reply C} → Step k s (repeat o) r → (g : Segment) → r.answer ≡ repeated g → Contains (pending t) g × (g.start ≡ o)
   repeat_is (refuses idle) g is = absurd (grind arith)
   repeat_is (repeats {o} some) g is =
-      let same : segment_at o (map (claim os) (kept_by (ends_past s.proved) gs)) ≡ g = rw (← t.claims) (cc) in
+      let same : segment_at o (map (claim os) (pending t)) ≡ g = rw (← t.claims) (cc) in
       rw (← same) (segment_found os o _ (rw t.claims at some), starts_there o _)
