@@ -5,6 +5,7 @@ use Rattle.std.proofs.lemmas.List.{map-append, drop-drop, length_push}
 use Rattle.std.proofs.lemmas.List.Elements.{filter-append, All-push, All-cons}
 use Rattle.std.proofs.lemmas.Map.Views.{any-filter_same}
 use Rattle.std.proofs.lemmas.List.Sums.{sum_by_push}
+use Rattle.std.proofs.lemmas.List.Filters.{sum_by-filter_both}
 use Rattle.std.proofs.lemmas.List.Folds.{Any-from_list_any, list_any_none}
 use Rattle.std.proofs.lemmas.Bool.{lt-ltb, lt-leb}
 use Rattle.std.proofs.lemmas.Bool.Decides.{nat_tests}
@@ -18,7 +19,7 @@ use Rattle.protocol.specs.Calls.{Call, State, Reply}
 use Rattle.protocol.specs.SenderRules.{true_sum, after_send, after_advance, after_duplicate}
 use Rattle.protocol.specs.History.{History, noted, segments, bytes, sum_before}
 use Rattle.protocol.specs.Duplicates.{starts_counted}
-use Rattle.protocol.proofs.Lists.{map-map, any-map, kept_map, sum_of-map, kept_twice, sum_split}
+use Rattle.protocol.proofs.Lists.{map-map, any-map, kept_map, sum_of-map, kept_twice, sum_agree, sum_kept}
 use Rattle.protocol.proofs.Steps.{Step, Found}
 use Rattle.protocol.proofs.Steps.Step.{sends, advances, counts}
 
@@ -50,8 +51,10 @@ module _ {C : Type 0} {ws : List ℕ} {s : State C} {gs : List Segment} {os : Li
   sums : (p : Segment → Bool) → ((g : Segment) → Lies s.sent g → ends_by s.proved g ≡ true → p g ≡ true) →
       (s.settled + sum_of (on p) nonce s.claims) % 2 ^ 64 ≡ sum_of p (λ g. g.summed) gs % 2 ^ 64
   sums p wide =
-      let whole = sum_split (ends_by s.proved) p (ends_past s.proved) (λ g. g.summed) gs (λ g. grind (arith, nat_tests)) (λ k d within. wide (get_or gs k d) (t.lie k d within)) in
-      rw (t.settled, t.claims, sum_of-map (claim os) (on p) nonce, mod-add-mod, whole) refl
+      let term = λ (g : Segment). cond (p g) g.summed 0 in
+      let gone = sum_kept term (ends_by s.proved) gs ∙ sum_agree _ (λ g. cond (ends_by s.proved g) g.summed 0) gs (λ k d within. let w = wide (get_or gs k d) (t.lie k d within) in grind arith) in
+      let whole = sum_by-filter_both (ends_by s.proved) (ends_past s.proved) (λ g. grind (arith, nat_tests)) term gs in
+      rw (t.settled, t.claims, sum_of-map (claim os) (on p) nonce, mod-add-mod, ← gone, whole) refl
 
   pub true_sum_is : (e : ℕ) → s.proved ≤ e → true_sum s e ≡ sum_before e gs
   true_sum_is e past = sums (begun_before e) (λ g lies by. grind (arith, nat_tests))

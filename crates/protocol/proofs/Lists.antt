@@ -1,5 +1,5 @@
 -- Filters, sums and tests of lists. Assumes nothing.
-use Rattle.std.proofs.Common.{◌≡◌, ℕ, ◌+◌, ◌*◌, ◌≤◌, Bool, true, cond, not, ◌&&◌, ◌||◌, suc, List, [], ◌∷◌, map, All, refl, ap, arith}
+use Rattle.std.proofs.Common.{◌≡◌, ℕ, ◌+◌, ◌*◌, ◌≤◌, Bool, true, cond, not, ◌&&◌, ◌||◌, suc, List, [], ◌∷◌, map, All, sum_by, refl, ap, arith}
 use Rattle.std.proofs.lemmas.Bool.{false≢true}
 use Rattle.std.proofs.lemmas.List.Folds.{fold-map, Any-from_list_any, list_any-from_Any}
 use Rattle.std.proofs.lemmas.List.Sums.{sum_by_from, sum_by-cons, sum_by-le-sum_by}
@@ -52,21 +52,14 @@ module _ {A : Type 0} where
         let w = wider x in
         rw (sum_by-cons (λ y. cond (p y) 1 0)) (grind (arith, sum_by_from))
 
-  module _ (p q : A → Bool) where
-    -- a filter that keeps all that pass
-    pub count_kept : (xs : List A) → All (λ x. p x ≡ true → q x ≡ true) xs → count p (kept_by q xs) ≡ count p xs
-    count_kept [] within = refl
-    count_kept (x ∷ xs) within =
-        let rest = count_kept xs (λ k d in_range. within (suc k) d (omega arith)) in
-        let here = within 0 x (omega arith) in
-        grind (arith, sum_by_from)
+  -- two sums that agree term by term
+  pub sum_agree : (f g : A → ℕ) (xs : List A) → All (λ x. f x ≡ g x) xs → sum_by f xs ≡ sum_by g xs
+  sum_agree f g [] same = refl
+  sum_agree f g (x ∷ xs) same =
+      let rest = sum_agree f g xs (λ k d within. same (suc k) d (omega arith)) in
+      let here = same 0 x (omega arith) in
+      grind (arith, sum_by_from)
 
-    -- those that pass p, and those of the others that pass a wider test
-    pub sum_split : (r : A → Bool) (n : A → ℕ) (xs : List A) → ((x : A) → r x ≡ not (p x)) → All (λ x. p x ≡ true → q x ≡ true) xs →
-        sum_of p n xs + sum_of q n (kept_by r xs) ≡ sum_of q n xs
-    sum_split r n [] others wider = refl
-    sum_split r n (x ∷ xs) others wider =
-        let rest = sum_split r n xs others (λ k d within. wider (suc k) d (omega arith)) in
-        let w = wider 0 x (omega arith) in
-        let o = others x in
-        grind (arith, sum_by_from)
+  pub sum_kept : (f : A → ℕ) (p : A → Bool) (xs : List A) → sum_by f (kept_by p xs) ≡ sum_of p f xs
+  sum_kept f p [] = refl
+  sum_kept f p (x ∷ xs) = let rest = sum_kept f p xs in grind (arith, sum_by_from)

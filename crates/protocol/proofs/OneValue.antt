@@ -15,7 +15,7 @@ use Rattle.protocol.specs.History.{History, segments, bytes}
 use Rattle.protocol.specs.Duplicates.{starts_counted}
 use Rattle.protocol.specs.Runs.{state, answer, history}
 use Rattle.protocol.specs.Promises.{reaches, One, Unreached, Passes}
-use Rattle.protocol.proofs.Lists.{sum_of-map, sum_apart, count_kept}
+use Rattle.protocol.proofs.Lists.{sum_of-map, sum_apart, sum_agree, sum_kept}
 use Rattle.protocol.proofs.Steps.{step}
 use Rattle.protocol.proofs.ClaimTable.{ClaimTable, claim}
 use Rattle.protocol.proofs.Invariant.{follows}
@@ -93,7 +93,8 @@ module _ {C : Type 0} (k : Control C) (c : C) (laws : Lawful k) (ws : List ℕ) 
           let t = tabled (calls after) in
           let there = held after quiet in
           let unproved = there.unproved in
-          let kept = count_kept (starts_at g.start) (ends_past here.proved) gs (λ i d within at. let lies = t.lie i d within in grind (arith, nat_tests)) in
+          let one = λ (f : Segment). cond {A = ℕ} (starts_at g.start f) 1 0 in
+          let kept = sum_kept one (ends_past here.proved) gs ∙ sum_agree _ one gs (λ i d within. let lies = t.lie i d within in grind (arith, nat_tests)) in
           rw (t.claims, sum_of-map (claim (starts_counted (past (calls after)))) (on (starts_at g.start)) (λ d. 1), kept) there.one
 
       -- the true sum without that nonce

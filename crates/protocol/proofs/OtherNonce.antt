@@ -1,12 +1,11 @@
 -- The sender with another summed nonce in one of its claims: until an acknowledgement ends past that claim's start, nothing else differs. Assumes nothing.
-use Rattle.std.proofs.Common.{◌≡◌, ℕ, ◌+◌, ◌*◌, ◌<◌, ◌≤◌, Bool, true, false, cond, eqb, ltb, suc, List, [], ◌∷◌, map, length, get_or, drop, set, All, Some, None, Option, refl, ap, ◌∙◌, ⊎_elim, arith}
+use Rattle.std.proofs.Common.{◌≡◌, ℕ, ◌+◌, ◌*◌, ◌<◌, ◌≤◌, Bool, true, false, cond, eqb, ltb, List, [], ◌∷◌, map, length, get_or, drop, set, All, Some, None, Option, refl, ap, ◌∙◌, ⊎_elim, arith}
 use Rattle.std.proofs.lemmas.List.{length-map, length-drop, length-set, length_push, map-append, drop-drop, get_or-drop, get_or-set_same, get_or-set_other}
 use Rattle.std.proofs.lemmas.List.Elements.{All-map, All-filter}
 use Rattle.std.proofs.lemmas.Bool.{lt-ltb, cases_lt}
 use Rattle.std.proofs.lemmas.Bool.Decides.{nat_tests}
 use Rattle.fault.specs.Refusals.{Refusal}
 use Rattle.congestion.specs.Control.{Control}
-use Rattle.std.proofs.lemmas.List.Sums.{sum_by_from}
 use Rattle.protocol.specs.declared.segment.Segment.{Segment}
 use Rattle.protocol.specs.declared.segment.Claim.{Claim}
 use Rattle.protocol.specs.Lists.{sum_of, kept_by}
@@ -20,7 +19,7 @@ use Rattle.protocol.specs.SenderRules.{checks, acknowledged, accepted, concluded
 use Rattle.protocol.specs.History.{History, noted, segments}
 use Rattle.protocol.specs.Duplicates.{starts_counted}
 use Rattle.protocol.specs.Promises.{reaches}
-use Rattle.protocol.proofs.Lists.{map-map, any-map, leads-map, kept_map}
+use Rattle.protocol.proofs.Lists.{sum_of-map, sum_agree, map-map, any-map, leads-map, kept_map}
 use Rattle.protocol.proofs.ClaimTable.{ClaimTable, Lies, claim}
 
 -- v for the summed nonce of the claim at o
@@ -42,12 +41,8 @@ module _ (o v : ℕ) where
 
   sum_renonced : (p : Claim → Bool) → Blind p → (cs : List Claim) → All (λ c. p c ≡ true → on (starts_at o) c ≡ false) cs →
       sum_of p nonce (map (renonced o v) cs) ≡ sum_of p nonce cs
-  sum_renonced p blind [] apart = refl
-  sum_renonced p blind (c ∷ cs) apart =
-      let rest = sum_renonced p blind cs (λ k d within. apart (suc k) d (omega arith)) in
-      let first = apart 0 c (omega arith) in
-      let here = blind c in
-      grind (arith, sum_by_from)
+  sum_renonced p blind cs apart =
+      sum_of-map (renonced o v) p nonce cs ∙ sum_agree _ _ cs (λ k d within. let here = apart k d within in let same = blind (get_or cs k d) in grind arith)
 
   oldest_renonced : (p : Claim → Bool) → Blind p → (cs : List Claim) → oldest p (map (renonced o v) cs) ≡ oldest p cs
   oldest_renonced p blind [] = refl
