@@ -11,7 +11,7 @@ use Rattle.protocol.specs.History.{History, noted, segments, farthest}
 use Rattle.protocol.specs.Duplicates.{counted_for, starts_counted, beyond, Counted}
 use Rattle.protocol.proofs.Lists.{any_wider, count_wider, count_more}
 use Rattle.protocol.proofs.Steps.{Step, Found}
-use Rattle.protocol.proofs.Steps.Step.{sends, advances, counts, expires}
+use Rattle.protocol.proofs.Steps.Step.{sends, counts}
 use Rattle.protocol.proofs.ClaimTable.{ClaimTable, found_segment, found_new}
 
 -- it starts beyond e, and a duplicate was counted for it
@@ -33,11 +33,9 @@ module _ {C : Type 0} {ws : List ℕ} {s : State C} (h : History) (t : ClaimTabl
 
   pub keeps_backed : {k : Control C} {x : Call} {r : Reply C} → Step k s x r → Backed s h → Backed r.state (noted x r.answer h)
   keeps_backed (sends some enough) backed = rw (sum_by_push (λ g. cond (used s.proved (starts_counted h) g) 1 0)) (omega arith)
-  keeps_backed (advances past within same) backed = omega arith
   keeps_backed (counts {x} o true level found) backed = one_more x o found backed
   keeps_backed (counts {x} o false level found) backed = one_more x o found backed
-  keeps_backed (expires past) backed = omega arith
-  keeps_backed other backed = backed
+  keeps_backed other backed = omega arith
 
   module _ (proved : s.proved ≡ farthest h) where
     pub duplicates_bounded : Backed s h → s.duplicates ≤ beyond h

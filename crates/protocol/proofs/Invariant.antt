@@ -1,5 +1,5 @@
 -- What ties a state to the history that led to it, and that every call keeps it. Assumes nothing.
-use Rattle.std.proofs.Common.{◌≡◌, ℕ, ◌+◌, ◌*◌, ◌<◌, ◌≤◌, true, List, [], ◌∷◌, sym, refl, mul-le-mul_left, arith}
+use Rattle.std.proofs.Common.{◌≡◌, ℕ, ◌+◌, ◌*◌, ◌<◌, ◌≤◌, List, [], ◌∷◌, sym, refl, mul-le-mul_left, arith}
 use Rattle.std.proofs.lemmas.Bool.{false≢true}
 use Rattle.std.proofs.lemmas.List.Elements.{All-nil}
 use Rattle.std.proofs.lemmas.Bool.Decides.{nat_tests}
@@ -15,7 +15,7 @@ use Rattle.protocol.specs.Duplicates.{starts_counted, beyond, duplicates_since, 
 use Rattle.protocol.specs.Runs.{state, history}
 use Rattle.protocol.proofs.Lists.{leads-map}
 use Rattle.protocol.proofs.Steps.{Step, step}
-use Rattle.protocol.proofs.Steps.Step.{refuses, advances, counts, expires, orders, returns}
+use Rattle.protocol.proofs.Steps.Step.{refuses, advances, counts, returns}
 use Rattle.protocol.proofs.ClaimTable.{ClaimTable, Lies, claim, true_sum_is, keeps_table}
 use Rattle.protocol.proofs.Signals.{Steered, keeps_steered}
 use Rattle.protocol.proofs.Duplicates.{Backed, keeps_backed, duplicates_bounded}
@@ -41,18 +41,12 @@ module _ {C : Type 0} {k : Control C} {c : C} {ws : List ℕ} {s : State C} {h :
   keeps_proved other = i.proved
 
   keeps_duplicates : {x : Call} {r : Reply C} → Step k s x r → r.state.duplicates ≡ duplicates_since (noted x r.answer h)
-  keeps_duplicates (advances past within same) = refl
   keeps_duplicates (counts o third level found) = grind (arith, i.duplicates)
-  keeps_duplicates (expires past) = refl
-  keeps_duplicates other = i.duplicates
+  keeps_duplicates other = grind (arith, i.duplicates)
 
   keeps_due : {x : Call} {r : Reply C} → Step k s x r → r.state.due ≡ repeat_due (noted x r.answer h)
-  keeps_due (advances past within same) = refl
-  keeps_due (counts o true level found) = refl
-  keeps_due (expires past) = refl
-  keeps_due (orders due) = refl
   keeps_due (returns {o}) = rw (i.due, i.table.claims, leads-map (claim (starts_counted h)) (on (starts_at o)), i.proved) refl
-  keeps_due other = i.due
+  keeps_due other = grind (arith, i.due)
 
   keeps : Lawful k → {x : Call} {r : Reply C} → Step k s x r → Follows k c ws r.state (noted x r.answer h)
   keeps laws st = record {

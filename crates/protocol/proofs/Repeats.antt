@@ -17,7 +17,7 @@ use Rattle.protocol.specs.History.{History, noted, segments, EndToEnd}
 use Rattle.protocol.specs.Duplicates.{starts_counted}
 use Rattle.protocol.proofs.Lists.{leads-map, any_wider}
 use Rattle.protocol.proofs.Steps.{Step, Found}
-use Rattle.protocol.proofs.Steps.Step.{refuses, sends, advances, counts, expires, orders, repeats, returns}
+use Rattle.protocol.proofs.Steps.Step.{refuses, sends, counts, expires, orders, repeats, returns}
 use Rattle.protocol.proofs.ClaimTable.{ClaimTable, claim, pending, found_segment}
 use Rattle.protocol.proofs.Stream.{one_past}
 
@@ -35,16 +35,14 @@ module _ {C : Type 0} {ws : List ℕ} {s : State C} (h : History) (t : ClaimTabl
 
   pub keeps_waiting : {k : Control C} {x : Call} {r : Reply C} → Step k s x r → Waiting s h → Waiting r.state (noted x r.answer h)
   keeps_waiting (sends some enough) waiting = λ due. let before = waiting due in rw list_any-append (grind arith)
-  keeps_waiting (advances past within same) waiting = λ due. absurd (false≢true due)
   keeps_waiting (counts {x} o true level found) waiting = λ due. found_outstanding x o found
   keeps_waiting (counts {x} o false level found) waiting = λ due. found_outstanding x o found
   keeps_waiting (expires past) waiting = λ due. one_past s.proved 0 (segments h) joined (omega arith) (omega (arith, t.sent))
-  keeps_waiting (orders due) waiting = λ again. absurd (false≢true again)
   keeps_waiting (returns {o}) waiting = λ due.
       let either = rw (t.claims, leads-map (claim (starts_counted h)) (on (starts_at o))) at due in
       let again = kept_some (starts_at o) (ends_past s.proved) (segments h) in
       grind arith
-  keeps_waiting other waiting = waiting
+  keeps_waiting other waiting = λ due. grind arith
 
 starts_there : (o : ℕ) (cs : List Claim) → (segment_at o cs).start ≡ o
 starts_there o [] = refl
