@@ -1,16 +1,15 @@
 -- Of the 2^64 values of a summed nonce, one gets the first acknowledgement past its segment's start accepted. Assumes nothing.
-use Rattle.std.proofs.Common.{◌≡◌, ℕ, ◌+◌, ◌-◌, ◌*◌, ◌%◌, ◌^◌, ◌<◌, ◌≤◌, false, cond, eqb, List, [], ◌∷◌, ◌++◌, length, set, refl, ap, ◌∙◌, arith}
+use Rattle.std.proofs.Common.{◌≡◌, ℕ, ◌+◌, ◌-◌, ◌*◌, ◌%◌, ◌^◌, ◌<◌, ◌≤◌, false, cond, ◌↔◌, eqb, List, [], ◌∷◌, ◌++◌, length, set, refl, ap, ◌∙◌, arith}
 use Rattle.std.proofs.lemmas.Bool.Decides.{nat_tests}
 use Rattle.congestion.specs.Control.{Control, Lawful}
 use Rattle.protocol.specs.declared.segment.Segment.{Segment}
 use Rattle.protocol.specs.Lists.{sum_of, count}
 use Rattle.protocol.specs.Segments.{begun_before, ends_past, starts_at}
 use Rattle.protocol.specs.Claims.{on, nonce}
-use Rattle.protocol.specs.Checks.{first_refusal}
-use Rattle.protocol.specs.Calls.{Call, State, refusal_of}
+use Rattle.protocol.specs.Calls.{Call, State}
 use Rattle.protocol.specs.Calls.Call.{send, acknowledge}
 use Rattle.protocol.specs.Calls.Answer.{sent}
-use Rattle.protocol.specs.SenderRules.{true_sum, checks, reply, opened}
+use Rattle.protocol.specs.SenderRules.{true_sum, reply, opened}
 use Rattle.protocol.specs.History.{History, segments, bytes}
 use Rattle.protocol.specs.Duplicates.{starts_counted}
 use Rattle.protocol.specs.Runs.{state, answer, history}
@@ -107,26 +106,17 @@ module _ {C : Type 0} (k : Control C) (c : C) (laws : Lawful k) (ws : List ℕ) 
           let apart = sum_apart (on (starts_at g.start)) (on (begun_before e)) (λ d at. grind (arith, nat_tests)) nonce v here.claims in
           rw (sum_of-map (renonced g.start v) (on (begun_before e)) nonce, apart, one_claim) (omega arith)
 
-      checked : (v : ℕ) → refusal_of (answer k (opened c (set ws (2 * N) v)) (calls after) (acknowledge e m x)) ≡ first_refusal (checks k (having v) (acknowledge e m x))
-      checked v = rw (refusal_is, alike_after v after quiet) refl
-
       abbrev Accepts : ℕ → Type 0
       Accepts = Passes k (opened c ws) before l after (acknowledge e m x)
 
-      accepts : (v : ℕ) → m ≡ (rest + v) % 2 ^ 64 → Accepts v
-      accepts v right =
+      accepts : (v : ℕ) → Accepts v ↔ (m ≡ (rest + v) % 2 ^ 64)
+      accepts v =
           let sum = sum_having v in
           let there = held after quiet in
           let all = (tabled (calls after)).sent in
-          checked v ∙ grind (arith, nat_tests)
-
-      accepted : (v : ℕ) → Accepts v → m ≡ (rest + v) % 2 ^ 64
-      accepted v pass =
-          let none = rw (checked v) at pass in
-          let sum = sum_having v in
-          grind (arith, nat_tests)
+          rw (refusal_is, alike_after v after quiet) (λ none. grind (arith, nat_tests), λ right. grind (arith, nat_tests))
 
       pub one_accepted : m < 2 ^ 64 → One Accepts
       one_accepted small =
           let (v, below, right, only) = solve rest m small in
-          (v, below, accepts v right, λ u fits pass. only u fits (accepted u pass))
+          (v, below, (accepts v).1 right, λ u fits pass. only u fits ((accepts u).0 pass))
