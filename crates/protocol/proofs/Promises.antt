@@ -29,7 +29,7 @@ module _ {C : Type 0} (k : Control C) (c : C) (laws : Lawful k) (ws : List ℕ) 
   pub all_promises : Promises k (opened c ws)
   all_promises = record {
     no_other_refusal = λ calls x. refusal_is k (now calls) x ∙ same_grounds (kept calls) x;
-    refusal_changes_nothing = λ calls x f is. refused_same k (now calls) x f is;
+    refusal_changes_nothing = λ calls. refused_same k (now calls);
     proved_is_farthest = λ calls. (kept calls).proved;
     sent_is_bytes = λ calls. (kept calls).table.sent;
     end_to_end = λ calls. (kept calls).joined;

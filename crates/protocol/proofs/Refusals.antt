@@ -1,5 +1,5 @@
 -- A call is refused on the grounds that the history shows, and on no other, and then changes nothing. Assumes nothing.
-use Rattle.std.proofs.Common.{◌≡◌, ℕ, ◌≤◌, List, Some, None, Option, sym, refl, ap, ◌∙◌, arith}
+use Rattle.std.proofs.Common.{◌≡◌, ℕ, List, Some, None, Option, sym, refl, ap, ◌∙◌, arith}
 use Rattle.std.proofs.lemmas.List.{length-map, length-drop}
 use Rattle.std.proofs.lemmas.Bool.Decides.{nat_tests}
 use Rattle.fault.specs.Refusals.{Refusal}
@@ -10,8 +10,8 @@ use Rattle.protocol.specs.Checks.{first_refusal}
 use Rattle.protocol.specs.Calls.{Call, State, refusal_of}
 use Rattle.protocol.specs.Calls.Call.{send, acknowledge, timeout, take, repeat, put_back}
 use Rattle.protocol.specs.Calls.Answer.{refused}
-use Rattle.protocol.specs.SenderRules.{true_sum, checks, accepted, concluded, reply}
-use Rattle.protocol.specs.History.{History, segments, farthest, sum_before}
+use Rattle.protocol.specs.SenderRules.{checks, accepted, concluded, reply}
+use Rattle.protocol.specs.History.{History}
 use Rattle.protocol.specs.Duplicates.{starts_counted}
 use Rattle.protocol.specs.Grounds.{grounds}
 use Rattle.protocol.proofs.Lists.{any-map}
@@ -44,7 +44,7 @@ module _ {C : Type 0} {k : Control C} {c : C} {ws : List ℕ} {s : State C} {h :
   same_grounds (acknowledge e m x) =
       let known = any_claim i.table (on (echoed_past s.proved x)) (λ g passes. grind (arith, nat_tests)) in
       let fresh = any_claim i.table (unspent s.proved x) (λ g passes. grind (arith, nat_tests)) in
-      let whole : farthest h ≤ e → true_sum s e ≡ sum_before e (segments h) = (λ past. true_sum_is i.table e (omega (arith, i.proved))) in
+      let whole = rw i.proved at (true_sum_is i.table e) in
       rw (known, fresh, i.table.sent, i.proved) (grind (arith, nat_tests))
   same_grounds timeout = rw (i.table.sent, i.proved) (grind (arith, nat_tests))
   same_grounds take = rw (i.due, i.table.sent) refl

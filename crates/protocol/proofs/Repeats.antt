@@ -1,5 +1,5 @@
 -- When a repeat is due, which segment an order names, and what a repeat answers. Assumes nothing.
-use Rattle.std.proofs.Common.{◌≡◌, ℕ, Bool, true, false, List, [], ◌∷◌, map, Contains, refl, arith}
+use Rattle.std.proofs.Common.{◌≡◌, ℕ, Bool, true, List, [], ◌∷◌, map, Contains, refl, arith}
 use Rattle.std.proofs.lemmas.List.Folds.{list_any-append}
 use Rattle.std.proofs.lemmas.List.Elements.{Contains-append_right}
 use Rattle.std.proofs.lemmas.Bool.{false≢true, cond_both}
@@ -16,7 +16,7 @@ use Rattle.protocol.specs.Calls.Answer.{ordered, repeated}
 use Rattle.protocol.specs.History.{History, noted, segments, EndToEnd}
 use Rattle.protocol.specs.Duplicates.{starts_counted}
 use Rattle.protocol.proofs.Lists.{leads-map, any_wider}
-use Rattle.protocol.proofs.Steps.{Step, Found}
+use Rattle.protocol.proofs.Steps.{Step}
 use Rattle.protocol.proofs.Steps.Step.{refuses, sends, counts, expires, orders, repeats, returns}
 use Rattle.protocol.proofs.ClaimTable.{ClaimTable, claim, pending, found_segment}
 use Rattle.protocol.proofs.Stream.{one_past}
@@ -30,13 +30,11 @@ kept_some p r [] first = absurd (false≢true first)
 kept_some p r (x ∷ xs) first = let rest = kept_some p r xs in grind arith
 
 module _ {C : Type 0} {ws : List ℕ} {s : State C} (h : History) (t : ClaimTable ws s (segments h) (starts_counted h)) (joined : EndToEnd 0 (segments h)) where
-  found_outstanding : (x o : ℕ) → Found s x o → any (ends_past s.proved) (segments h) ≡ true
-  found_outstanding x o found = any_wider _ (ends_past s.proved) (λ g passes. grind (arith, nat_tests)) (segments h) (found_segment t x o found)
-
   pub keeps_waiting : {k : Control C} {x : Call} {r : Reply C} → Step k s x r → Waiting s h → Waiting r.state (noted x r.answer h)
   keeps_waiting (sends some enough) waiting = λ due. let before = waiting due in rw list_any-append (grind arith)
-  keeps_waiting (counts {x} o true level found) waiting = λ due. found_outstanding x o found
-  keeps_waiting (counts {x} o false level found) waiting = λ due. found_outstanding x o found
+  keeps_waiting (counts {x} o third level found) waiting = λ due.
+      let some = any_wider _ (ends_past s.proved) (λ g passes. grind (arith, nat_tests)) (segments h) (found_segment t x o found) in
+      grind arith
   keeps_waiting (expires past) waiting = λ due. one_past s.proved 0 (segments h) joined (omega arith) (omega (arith, t.sent))
   keeps_waiting (returns {o}) waiting = λ due.
       let either = rw (t.claims, leads-map (claim (starts_counted h)) (on (starts_at o))) at due in
