@@ -1,10 +1,9 @@
 -- The sender with another summed nonce in one of its claims: until an acknowledgement ends past that claim's start, nothing else differs. Assumes nothing.
-use Rattle.std.proofs.Common.{◌≡◌, ℕ, ◌+◌, ◌*◌, ◌<◌, ◌≤◌, Bool, true, false, cond, eqb, ltb, List, [], ◌∷◌, map, length, get_or, drop, set, All, Some, None, Option, refl, ap, ◌∙◌, ⊎_elim, arith}
+use Rattle.std.proofs.Common.{◌≡◌, ℕ, ◌+◌, ◌*◌, ◌<◌, ◌≤◌, Bool, true, false, cond, eqb, ltb, List, [], ◌∷◌, map, length, get_or, drop, set, All, Some, None, refl, ◌∙◌, ⊎_elim, arith}
 use Rattle.std.proofs.lemmas.List.{length-map, length-drop, length-set, length_push, map-append, drop-drop, get_or-drop, get_or-set_same, get_or-set_other}
 use Rattle.std.proofs.lemmas.List.Elements.{All-map, All-filter}
 use Rattle.std.proofs.lemmas.Bool.{lt-ltb, cases_lt}
 use Rattle.std.proofs.lemmas.Bool.Decides.{nat_tests}
-use Rattle.fault.specs.Refusals.{Refusal}
 use Rattle.congestion.specs.Control.{Control}
 use Rattle.protocol.specs.declared.segment.Segment.{Segment}
 use Rattle.protocol.specs.declared.segment.Claim.{Claim}
@@ -102,11 +101,8 @@ module _ {C : Type 0} (k : Control C) (o v N : ℕ) (ws : List ℕ) (room : 2 * 
     same_accepted x upto = refl
 
     same_reply : (x : Call) → Upto o x → (reply k now x).state ≡ after x (reply k s x)
-    same_reply x upto = ap (λ f. (concluded k now x f).state) (same_first x upto) ∙ go (first_refusal (checks k s x))
-      where
-        go : (f : Option Refusal) → (concluded k now x f).state ≡ after x (concluded k s x f)
-        go None = same_accepted x upto
-        go (Some f) = refl
+    same_reply x upto = rw (same_first x upto)
+        (elim (first_refusal (checks k s x)) as (λ f. (concluded k now x f).state ≡ after x (concluded k s x f)) [ None ↦ same_accepted x upto | Some f ↦ refl ])
 
     -- an end past o that lies beyond the bytes sent is refused by both
     pub other_reply : (x : Call) → reaches o x h ≡ false → (reply k now x).state ≡ after x (reply k s x)

@@ -1,5 +1,5 @@
 -- A call is refused on the grounds that the history shows, and on no other, and then changes nothing. Assumes nothing.
-use Rattle.std.proofs.Common.{◌≡◌, ℕ, List, Some, None, Option, sym, refl, ap, ◌∙◌, arith}
+use Rattle.std.proofs.Common.{◌≡◌, ℕ, List, Some, None, sym, refl, ap, ◌∙◌, arith}
 use Rattle.std.proofs.lemmas.List.{length-map, length-drop}
 use Rattle.std.proofs.lemmas.Bool.Decides.{nat_tests}
 use Rattle.fault.specs.Refusals.{Refusal}
@@ -25,11 +25,7 @@ module _ {C : Type 0} (k : Control C) (s : State C) where
 
   -- the refusal in an answer is the first that the checks find
   pub refusal_is : (x : Call) → refusal_of (reply k s x).answer ≡ first_refusal (checks k s x)
-  refusal_is x = go (first_refusal (checks k s x))
-    where
-      go : (f : Option Refusal) → refusal_of (concluded k s x f).answer ≡ f
-      go None = not_refused x
-      go (Some f) = refl
+  refusal_is x = elim (first_refusal (checks k s x)) as (λ f. refusal_of (concluded k s x f).answer ≡ f) [ None ↦ not_refused x | Some f ↦ refl ]
 
   -- an answer without one is that of the accepted call
   pub accepted_is : (x : Call) → refusal_of (reply k s x).answer ≡ None → reply k s x ≡ accepted k s x
