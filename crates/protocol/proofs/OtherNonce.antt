@@ -7,7 +7,7 @@ use Rattle.std.proofs.lemmas.Bool.Decides.{nat_tests}
 use Rattle.congestion.specs.Control.{Control}
 use Rattle.protocol.specs.declared.segment.Segment.{Segment}
 use Rattle.protocol.specs.declared.segment.Claim.{Claim}
-use Rattle.protocol.specs.Lists.{sum_of, kept_by}
+use Rattle.protocol.specs.Lists.{kept_by}
 use Rattle.protocol.specs.Segments.{begun_before, ends_by, ends_past, starts_at, echoed_past}
 use Rattle.protocol.specs.Claims.{on, nonce, unspent, oldest}
 use Rattle.protocol.specs.Checks.{first_refusal}
@@ -33,19 +33,10 @@ other o v vs s = record s { words = vs; claims = map (renonced o v) s.claims }
 abbrev Upto : ℕ → Call → Type 0
 Upto o x = if_acknowledge (λ e m y. e ≤ o) (Unit {0}) x
 
-module _ (o v : ℕ) where
-  -- the test does not look at the summed nonce
-  abbrev Blind : (Claim → Bool) → Type 0
-  Blind p = (c : Claim) → p (renonced o v c) ≡ p c
-
-  sum_renonced : (p : Claim → Bool) → Blind p → (cs : List Claim) → All (λ c. p c ≡ true → on (starts_at o) c ≡ false) cs →
-      sum_of p nonce (map (renonced o v) cs) ≡ sum_of p nonce cs
-  sum_renonced p blind cs apart =
-      sum_of-map (renonced o v) p nonce cs ∙ sum_agree _ _ cs (λ k d within. let here = apart k d within in let same = blind (get_or cs k d) in grind arith)
-
-  oldest_renonced : (p : Claim → Bool) → Blind p → (cs : List Claim) → oldest p (map (renonced o v) cs) ≡ oldest p cs
-  oldest_renonced p blind [] = refl
-  oldest_renonced p blind (c ∷ cs) = rw (blind c, oldest_renonced p blind cs) refl
+-- a test that does not look at the summed nonce
+oldest_renonced : (o v : ℕ) (p : Claim → Bool) → ((c : Claim) → p (renonced o v c) ≡ p c) → (cs : List Claim) → oldest p (map (renonced o v) cs) ≡ oldest p cs
+oldest_renonced o v p blind [] = refl
+oldest_renonced o v p blind (c ∷ cs) = rw (blind c, oldest_renonced o v p blind cs) refl
 
 module _ {C : Type 0} {ws : List ℕ} {s : State C} {gs : List Segment} {os : List ℕ} (t : ClaimTable ws s gs os) where
   claims_lie : All (λ c. Lies s.sent c.segment) s.claims
@@ -75,14 +66,10 @@ module _ {C : Type 0} (k : Control C) (o v N : ℕ) (ws : List ℕ) (room : 2 * 
     same_first : (x : Call) → Upto o x → first_refusal (checks k now x) ≡ first_refusal (checks k s x)
     same_first (send l) upto = rw (length-map, t.words) (simp (length-drop, length-set))
     same_first (acknowledge e m x) upto =
-        let summed = sum_renonced o v (on (begun_before e)) (λ c. refl) s.claims (λ i d within by. grind (arith, nat_tests)) in
+        let summed = sum_of-map (renonced o v) (on (begun_before e)) nonce s.claims ∙ sum_agree _ (λ d. cond (on (begun_before e) d) (nonce d) 0) s.claims (λ i d within. grind (arith, nat_tests)) in
         rw (summed, any-map (renonced o v) (on (echoed_past s.proved x)), any-map (renonced o v) (unspent s.proved x)) refl
     same_first (repeat q) upto = rw (any-map (renonced o v) (on (starts_at q))) refl
     same_first x upto = refl
-
-    -- a duplicate makes no segment
-    no_segment : (x : Call) (q : ℕ) (third : Bool) → segments (noted x (cond third (lost q) (counted q)) h) ≡ segments h
-    no_segment x q third = grind arith
 
     same_accepted : (x : Call) → Upto o x → (accepted k now x).state ≡ after x (accepted k s x)
     same_accepted (send l) upto =
@@ -92,10 +79,11 @@ module _ {C : Type 0} (k : Control C) (o v N : ℕ) (ws : List ℕ) (room : 2 * 
       where
         go : (past : Bool) → (acknowledged k now e x past).state ≡ after (acknowledge e m x) (acknowledged k s e x past)
         go true =
-            let summed = sum_renonced o v (on (ends_by e)) (λ c. refl) s.claims (λ i d within by. let lies = claims_lie t i d within in grind (arith, nat_tests)) in
+            let summed = sum_of-map (renonced o v) (on (ends_by e)) nonce s.claims ∙ sum_agree _ (λ d. cond (on (ends_by e) d) (nonce d) 0) s.claims (λ i d within. let lies = claims_lie t i d within in grind (arith, nat_tests)) in
             rw (summed, kept_map (renonced o v) (on (ends_past e))) refl
         go false =
-            let none = no_segment (acknowledge e m x) (oldest (unspent s.proved x) s.claims) (eqb s.duplicates 2) in
+            let q = oldest (unspent s.proved x) s.claims in
+            let none : segments (noted (acknowledge e m x) (cond (eqb s.duplicates 2) (lost q) (counted q)) h) ≡ segments h = grind arith in
             rw (oldest_renonced o v (unspent s.proved x) (λ c. refl), none, map-map, map-map) refl
     same_accepted (put_back q) upto = rw (leads-map (renonced o v) (on (starts_at q))) refl
     same_accepted x upto = refl
