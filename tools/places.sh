@@ -2,7 +2,7 @@
 # Lists the places that a reading for plainer forms begins with, a heading for each kind; run it at the top of a checkout.
 # It finds by text, so that each place found still wants reading.
 set -eu
-src() { find crates -path '*/src/*.rt' ! -path '*_tests/*' | sort; }
+src() { git ls-files 'crates/*/src/*.rt' | grep -v '_tests/' | sort; }
 show() { # the heading; the places come by stdin
   local places
   places=$(cat)
@@ -20,5 +20,5 @@ src | xargs grep -nE '(C|N)\.(Controller|NonceSource)\.[a-z]+|view N\.' | show '
 src | xargs grep -nE 'increase: Increase|Increase::' | show '5 an increase handed along with the window that it is of'
 src | xargs grep -nE '^ +(pub(\(crate\))? )?[a-z_]+: (\[|&.*\[)|count: usize' | show '6 buffers, and lengths beside them'
 src | xargs grep -nE 'match (\*?self|increase|step|kind)\b|: fn\(|dyn |Box<' | show '7 switches and tables of steps'
-find crates -path '*/proofs/*' -name 'Answers.antt' | sort | show '8 files of answers'
-find crates -path '*/proofs/*' -name '*.antt' ! -name Answers.antt ! -name Invariants.antt ! -name Lib.antt | sort | show '8 files of lemmas'
+git ls-files 'crates/*/proofs/*Answers.antt' | sort | show '8 files of answers'
+git ls-files 'crates/*/proofs/*.antt' | grep -vE '(Answers|Invariants|Lib)[.]antt' | sort | show '8 files of lemmas'
