@@ -33,7 +33,7 @@ other o v vs s = record s { words = vs; claims = map (renonced o v) s.claims }
 abbrev Upto : ℕ → Call → Type 0
 Upto o x = if_acknowledge (λ e m y. e ≤ o) (Unit {0}) x
 
--- a test that does not look at the summed nonce
+-- by a test that does not look at the summed nonce, the oldest claim is the same
 oldest_renonced : (o v : ℕ) (p : Claim → Bool) → ((c : Claim) → p (renonced o v c) ≡ p c) → (cs : List Claim) → oldest p (map (renonced o v) cs) ≡ oldest p cs
 oldest_renonced o v p blind [] = refl
 oldest_renonced o v p blind (c ∷ cs) = rw (blind c, oldest_renonced o v p blind cs) refl
