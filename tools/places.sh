@@ -14,6 +14,7 @@ src | xargs grep -nE 'fn .*-> bool|let mut [a-z_]+ = (true|false)|None => (0|fal
 src | xargs grep -nE 'fn (number|place)\b' | show '1 numbers for refusals'
 src | xargs grep -hoE '^ *(pub(\([a-z]+\))? )?fn [a-z_]+' | sed -E 's/.*fn //' | sort | uniq -cd | sort -rn | show '2 function names that stand more than once'
 src | xargs grep -nE '^ *(for|while|loop) ' | show '3 loops'
+src | xargs grep -nE ' as (u8|u16|u32|u64|usize)\b' | show '4 conversions by as'
 src | xargs grep -nE 'impl.* (PartialEq|Eq|Ord|PartialOrd|Clone|Copy|From<.*>|TryFrom<.*>|(fmt::)?(Display|Debug)) for|fn (eq|cmp|clone|copy|word|print_line|spend)\b' | show '4 comparison, copying, conversion and printing by hand'
 src | xargs grep -hoE '(requires|ensures)\*?( [a-z_]+)? \{.*\}' | sed -E 's/^(requires|ensures)\*?( [a-z_]+)? //' | sort | uniq -c | awk '$1 >= 3' | show '5 clauses that stand three times or more'
 src | xargs grep -nE '(C|N)\.(Controller|NonceSource)\.[a-z]+|view N\.' | show '5 lines whose clause hands on what a bound or a view means'
