@@ -18,6 +18,7 @@ impl Narrowing for Eighths {
 
     fn bound(&self, window: u32) -> u32 {
         let eighths = u64::from(self.eighths.clamp(1, 8));
+        // The proof shows that the cast loses nothing, and `try_from` would want an unwrap.
         (u64::from(window) * eighths / 8) as u32
     }
 

@@ -38,6 +38,7 @@ impl<'a> NonceSource for Recorded<'a> {
     }
 
     fn left(&self) -> u64 {
+        // A `usize` has no `From` to `u64`.
         self.rest.len() as u64
     }
 }

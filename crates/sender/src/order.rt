@@ -23,7 +23,7 @@ impl Order {
         Order { start }
     }
 
-    /// Ends the order, and tells the start that it named.
+    /// Ends the order, and tells the start that it named. As a public `From` it would let anybody end an order unused.
     pub(crate) fn spend(self) -> u64
         ensures { result ≡ self }
     {

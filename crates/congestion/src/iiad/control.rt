@@ -40,6 +40,7 @@ impl Controller for Iiad {
       most = λ s. s.growth.bounded.3;
     } };
 
+    // Reno has these two as well: a trait to say that both have a growth would be longer than they are.
     fn window(&self) -> u32 {
         self.growth.window
     }

@@ -32,6 +32,7 @@ impl Reno {
         ensures { result ≡ climbing self.now bytes }
     {
         let below = self.threshold.saturating_sub(self.window());
+        // The proof shows that the cast loses nothing, and `try_from` would want an unwrap.
         bytes.min(u64::from(below)) as u32
     }
 }
@@ -41,6 +42,7 @@ fn halved(segment: u32, flight: u64) -> u32
     requires { segment ≤ 9000 }
     ensures { result ≡ halved segment flight }
 {
+    // The proof shows that the cast loses nothing, and `try_from` would want an unwrap.
     (flight / 2)
         .max(2 * u64::from(segment))
         .min(u64::from(WIDEST)) as u32
@@ -62,6 +64,7 @@ impl Controller for Reno {
       most = λ s. s.growth.bounded.3;
     } };
 
+    // IIAD has these two as well: a trait to say that both have a growth would be longer than they are.
     fn window(&self) -> u32 {
         self.growth.window
     }

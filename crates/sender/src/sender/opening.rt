@@ -34,6 +34,7 @@ impl<C: Controller, N: NonceSource> Sender<C, N> {
     }
 
     /// No more is sent; all other calls go on as before.
+    // A struct is not updated into another type, so each field is named.
     pub fn finish(self) -> FinishedSender<C, N>
         ensures { result ≡ self }
     {
