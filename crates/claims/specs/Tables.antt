@@ -2,7 +2,7 @@
 use Rattle.std.specs.Prelude.{true, false}
 use Rattle.protocol.specs.declared.segment.Claim.{Claim}
 
--- what a free place holds
+-- the claim that stands for one past the end of a list
 abbrev pub no_claim : Claim
 no_claim = record { segment = record { start = 0; length = 0; summed = 0; single = 0 }; spent = false }
 

@@ -11,7 +11,7 @@ pub struct Table<const ROOM: usize> {
     claims: ArrayVec<Claim, ROOM>,
 }
 
-// Clauses see the claims, the oldest first.
+/// Contracts see the claims, the oldest first.
 impl<const ROOM: usize> Model for Table<ROOM> {
     ghost use Rattle.std.specs.Prelude.{List};
     ghost use Rattle.protocol.specs.declared.segment.Claim.{Claim};

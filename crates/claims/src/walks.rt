@@ -5,7 +5,8 @@ ghost use Rattle.claims.specs.Walks.{add_nonce};
 
 use protocol::segment::{Claim, Segment};
 
-// A chain for each test: one that is passed the test has a clause on closures that is longer than the chain, and no plainer.
+// Each contract repeats its chain in the words of lists, so that the search finds it; what a chain comes to is said by the method that uses it.
+// The two sums are apart, since the clause of one function that takes the test as a closure is longer than both chains.
 
 /// Adds the nonces of the claims begun before an end to a sum modulo 2^64.
 pub(crate) fn add_begun(claims: &[Claim], end: u64, sum: u64) -> u64

@@ -51,10 +51,21 @@ module _ (limit : ℕ → ℕ → ℕ) where
   abbrev pub Bounded : Sizes → Type 0
   Bounded g = (64 ≤ g.segment) × (g.segment ≤ 9000) × (g.segment ≤ g.window) × (g.window ≤ 2 ^ 24) × (g.carry < limit g.segment g.window)
 
--- a credited byte is within these bounds
+-- neither limit is 0
+pub additive_never_zero : NeverZero additive_limit
+additive_never_zero m w small h = omega arith
+
+pub inverse_never_zero : NeverZero inverse_limit
+inverse_never_zero m w small h = grind (arith, common_steps)
+
+-- a credited byte keeps these bounds
 pub fill_bounded : (limit : ℕ → ℕ → ℕ) → NeverZero limit → (g : Sizes) → Bounded limit g → Bounded limit (fill limit g)
 fill_bounded limit never_zero g b = grind (arith, common_steps, never_zero)
 
--- and so does a new window of at least a segment
+-- and a new window of at least a segment is within them
 pub fresh_bounded : (limit : ℕ → ℕ → ℕ) → NeverZero limit → (m w : ℕ) → 64 ≤ m → m ≤ 9000 → m ≤ w → w ≤ 2 ^ 24 → Bounded limit (fresh m w)
 fresh_bounded limit never_zero m w small large least most = (small, large, least, most, never_zero m w small least)
+
+-- so is a window of one segment
+pub one_segment_bounded : (limit : ℕ → ℕ → ℕ) → NeverZero limit → (g : Sizes) → Bounded limit g → Bounded limit (fresh g.segment g.segment)
+one_segment_bounded limit never_zero g b = fresh_bounded limit never_zero g.segment g.segment b.0 b.1 (omega arith) (omega arith)

@@ -2,11 +2,10 @@
 use Rattle.std.specs.Prelude.{◌≡◌, ℕ, ◌-◌, max, Result}
 use Rattle.std.specs.Fn.{iterate}
 use Rattle.std.proofs.Common.{arith}
-use Rattle.std.proofs.lemmas.Grind.{common_steps}
 use Rattle.congestion.specs.Control.{Control}
 use Rattle.congestion.specs.Iterates.{iterate_keeps}
 use Rattle.congestion.specs.Starts.{first_window, Makes}
-use Rattle.congestion.specs.Growths.{Sizes, inverse_limit, fresh, fill, Bounded, NeverZero, fresh_bounded, fill_bounded}
+use Rattle.congestion.specs.Growths.{Sizes, inverse_limit, fresh, fill, Bounded, inverse_never_zero, fresh_bounded, one_segment_bounded, fill_bounded}
 use Rattle.congestion.specs.Views.{sizes, resized}
 use Rattle.congestion.specs.declared.faults.ControllerFault.{ControllerFault}
 use Rattle.congestion.specs.declared.iiad.Iiad.{Iiad}
@@ -23,18 +22,15 @@ lost s = fresh s.growth.segment (max (s.growth.window - s.growth.segment) s.grow
 abbrev pub timed_out : Iiad → Sizes
 timed_out s = fresh s.growth.segment s.growth.segment
 
-never_zero : NeverZero inverse_limit
-never_zero m w small h = grind (arith, common_steps)
-
 -- each of these is within the bounds, which an Iiad carries with it
 pub credited_bounded : (s : Iiad) (n : ℕ) → Bounded inverse_limit (credited s n)
-credited_bounded s n = iterate_keeps (Bounded inverse_limit) (fill inverse_limit) (fill_bounded inverse_limit never_zero) n (sizes s.growth) s.growth.bounded
+credited_bounded s n = iterate_keeps (Bounded inverse_limit) (fill inverse_limit) (fill_bounded inverse_limit inverse_never_zero) n (sizes s.growth) s.growth.bounded
 
 pub lost_bounded : (s : Iiad) → Bounded inverse_limit (lost s)
-lost_bounded s = let b = s.growth.bounded in fresh_bounded inverse_limit never_zero s.growth.segment (lost s).window b.0 b.1 (omega arith) (omega arith)
+lost_bounded s = let b = s.growth.bounded in fresh_bounded inverse_limit inverse_never_zero s.growth.segment (lost s).window b.0 b.1 (omega arith) (omega arith)
 
 pub timed_out_bounded : (s : Iiad) → Bounded inverse_limit (timed_out s)
-timed_out_bounded s = let b = s.growth.bounded in fresh_bounded inverse_limit never_zero s.growth.segment s.growth.segment b.0 b.1 (omega arith) (omega arith)
+timed_out_bounded s = one_segment_bounded inverse_limit inverse_never_zero (sizes s.growth) s.growth.bounded
 
 abbrev pub iiad : Control Iiad
 iiad = record {

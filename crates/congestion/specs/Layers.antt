@@ -30,3 +30,11 @@ capped k = narrowed k at_most
 -- over the control k: so many eighths, of 1 to 8, and at least a segment
 abbrev pub shared : {C : Type 0} → Control C → Control (Narrowed C Eighths)
 shared k = narrowed k some_eighths
+
+-- the controller c under a cap of n bytes
+abbrev pub with_cap : {C : Type 0} → C → ℕ → Narrowed C AtMost
+with_cap c n = record { below = c; rule = record { cap = n } }
+
+-- the controller c under a share of n eighths
+abbrev pub with_eighths : {C : Type 0} → C → ℕ → Narrowed C Eighths
+with_eighths c n = record { below = c; rule = record { eighths = n } }

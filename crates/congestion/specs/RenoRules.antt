@@ -6,7 +6,7 @@ use Rattle.std.proofs.lemmas.Grind.{common_steps}
 use Rattle.congestion.specs.Control.{Control}
 use Rattle.congestion.specs.Iterates.{iterate_keeps}
 use Rattle.congestion.specs.Starts.{first_window, Makes}
-use Rattle.congestion.specs.Growths.{Sizes, additive_limit, at, fresh, fill, Bounded, NeverZero, fresh_bounded}
+use Rattle.congestion.specs.Growths.{Sizes, additive_limit, at, fresh, fill, Bounded, additive_never_zero, fresh_bounded, one_segment_bounded}
 use Rattle.congestion.specs.Views.{sizes, resized}
 use Rattle.congestion.specs.declared.faults.ControllerFault.{ControllerFault}
 use Rattle.congestion.specs.declared.reno.Reno.{Reno}
@@ -35,9 +35,6 @@ lost s f = fresh s.growth.segment (min s.growth.window (halved s.growth.segment 
 abbrev pub timed_out : Reno → Sizes
 timed_out s = fresh s.growth.segment s.growth.segment
 
-never_zero : NeverZero additive_limit
-never_zero m w small h = omega arith
-
 -- each of these is within the bounds, which a Reno carries with it
 pub byte_bounded : (t : ℕ) → t ≤ 2 ^ 24 → (g : Sizes) → Bounded additive_limit g → Bounded additive_limit (byte t g)
 byte_bounded t limited g b = grind (arith, common_steps)
@@ -49,10 +46,10 @@ pub halved_limited : (m f : ℕ) → halved m f ≤ 2 ^ 24
 halved_limited m f = omega arith
 
 pub lost_bounded : (s : Reno) (f : ℕ) → Bounded additive_limit (lost s f)
-lost_bounded s f = let b = s.growth.bounded in fresh_bounded additive_limit never_zero s.growth.segment (lost s f).window b.0 b.1 (omega arith) (omega arith)
+lost_bounded s f = let b = s.growth.bounded in fresh_bounded additive_limit additive_never_zero s.growth.segment (lost s f).window b.0 b.1 (omega arith) (omega arith)
 
 pub timed_out_bounded : (s : Reno) → Bounded additive_limit (timed_out s)
-timed_out_bounded s = let b = s.growth.bounded in fresh_bounded additive_limit never_zero s.growth.segment s.growth.segment b.0 b.1 (omega arith) (omega arith)
+timed_out_bounded s = one_segment_bounded additive_limit additive_never_zero (sizes s.growth) s.growth.bounded
 
 abbrev pub reno : Control Reno
 reno = record {

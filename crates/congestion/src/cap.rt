@@ -1,5 +1,5 @@
 ghost use Rattle.std.specs.Prelude.{◌≡◌};
-ghost use Rattle.congestion.specs.Layers.{at_most, capped};
+ghost use Rattle.congestion.specs.Layers.{at_most, capped, with_cap};
 ghost use Rattle.std.proofs.Common.{rules};
 
 use crate::controller::Controller;
@@ -8,7 +8,7 @@ use crate::narrowed::{Narrowed, Narrowing};
 /// No wider than `cap`.
 #[derive(Drop)]
 pub struct AtMost {
-    pub cap: u32,
+    cap: u32,
 }
 
 impl Narrowing for AtMost {
@@ -29,8 +29,7 @@ pub type Cap<C> = Narrowed<C, AtMost>;
 impl<C: Controller> Cap<C> {
     /// Over the controller `below`, which may be in any condition.
     pub fn new(below: C, cap: u32) -> Cap<C>
-        ensures below { result.below ≡ below }
-        ensures cap { result.rule.cap ≡ cap }
+        ensures made { result ≡ with_cap below cap }
         ensures control { ⟦<Cap<C> as Controller>⟧.control ≡ capped C.control }
     {
         let rule = AtMost { cap };

@@ -18,7 +18,7 @@ pub(crate) trait Increase {
     ghost has_room: { HasRoom limit };
 }
 
-/// A window that grows by a segment each time that the carry reaches its limit.
+/// A window that grows by a segment each time that the carry reaches its limit. It has no model, since the laws of Reno and IIAD read its bound.
 #[derive(Drop)]
 pub(crate) struct Growth<I: Increase> {
     pub(crate) segment: u32,
@@ -66,7 +66,7 @@ impl<I: Increase> Growth<I> {
     }
 
     /// A segment wider, and the carry at 0.
-    fn widen(&mut self)
+    fn grow(&mut self)
         ensures { sizes self.new ≡ wider (sizes self.old) }
     {
         self.window = (self.window + self.segment).min(WIDEST);
@@ -83,13 +83,13 @@ impl<I: Increase> Growth<I> {
 
     /// `bytes` credited bytes. Each turn of the loop is a return of the carry to 0, and there is none at the widest window.
     #[tactic(auto, using(crate::specs::Fillings::turns, crate::specs::Fillings::ends))]
-    pub(crate) fn fill(&mut self, bytes: u64)
+    pub(crate) fn credit(&mut self, bytes: u64)
         ensures { sizes self.new ≡ iterate (fill I.limit) bytes (sizes self.old) }
     {
         let mut left = bytes;
         while self.widens(left) {
             left -= self.missing();
-            self.widen();
+            self.grow();
         }
         self.carry_over(left);
     }

@@ -1,11 +1,11 @@
 ghost use Rattle.std.specs.Prelude.{ℕ, ◌≤◌};
-ghost use Rattle.congestion.specs.Growths.{additive_limit, inverse_limit};
+ghost use Rattle.congestion.specs.Growths.{additive_limit, additive_never_zero, inverse_limit, inverse_never_zero};
 ghost use Rattle.std.proofs.Common.{rules};
 ghost use Rattle.std.proofs.lemmas.Grind.{common_steps};
 
 use crate::growth::Increase;
 
-/// A window of them.
+/// A window of credited bytes widens it by a segment.
 #[derive(Drop)]
 pub(crate) struct Additive;
 
@@ -16,12 +16,12 @@ impl Increase for Additive {
         u64::from(window)
     }
 
-    ghost never_zero = { Prim.search rules };
+    ghost never_zero = { additive_never_zero };
 
     ghost has_room = { Prim.search rules };
 }
 
-/// As many windows of them as the window has segments, a part of one counted whole.
+/// As many windows of credited bytes as the window has segments, a part of one counted whole, widen it by a segment.
 #[derive(Drop)]
 pub(crate) struct Inverse;
 
@@ -32,7 +32,7 @@ impl Increase for Inverse {
         u64::from(window) * u64::from(window.div_ceil(segment))
     }
 
-    ghost never_zero = { Prim.search rules };
+    ghost never_zero = { inverse_never_zero };
 
     ghost has_room = { Prim.search (rules, common_steps) };
 }

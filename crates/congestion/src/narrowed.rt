@@ -20,8 +20,8 @@ pub trait Narrowing {
 /// The window below as `rule` narrows it, but of at least one segment.
 #[derive(Drop)]
 pub struct Narrowed<C, R> {
-    pub below: C,
-    pub rule: R,
+    pub(crate) below: C,
+    pub(crate) rule: R,
 }
 
 impl<C: Controller, R: Narrowing> Controller for Narrowed<C, R> {

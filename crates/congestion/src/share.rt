@@ -1,5 +1,5 @@
 ghost use Rattle.std.specs.Prelude.{◌≡◌, ◌≤◌, min, max};
-ghost use Rattle.congestion.specs.Layers.{some_eighths, shared};
+ghost use Rattle.congestion.specs.Layers.{some_eighths, shared, with_eighths};
 ghost use Rattle.std.proofs.Common.{rules, arith, mul-le-mul_left};
 ghost use Rattle.std.proofs.lemmas.Grind.{common_steps};
 
@@ -10,7 +10,7 @@ use crate::narrowed::{Narrowed, Narrowing};
 #[derive(Drop)]
 pub struct Eighths {
     /// 1 to 8, and any other is taken as the nearer end.
-    pub eighths: u32,
+    eighths: u32,
 }
 
 impl Narrowing for Eighths {
@@ -35,8 +35,7 @@ pub type Share<C> = Narrowed<C, Eighths>;
 impl<C: Controller> Share<C> {
     /// Over the controller `below`, which may be in any condition.
     pub fn new(below: C, eighths: u32) -> Share<C>
-        ensures below { result.below ≡ below }
-        ensures eighths { result.rule.eighths ≡ eighths }
+        ensures made { result ≡ with_eighths below eighths }
         ensures control { ⟦<Share<C> as Controller>⟧.control ≡ shared C.control }
     {
         let rule = Eighths { eighths };

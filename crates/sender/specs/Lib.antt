@@ -1,3 +1,3 @@
 pub mod Orders
 pub mod Parts
-pub mod Sound
+pub mod Views

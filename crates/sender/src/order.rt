@@ -7,7 +7,7 @@ pub struct Order {
     start: u64,
 }
 
-// Contracts see the start.
+/// Contracts see the start.
 impl Model for Order {
     ghost use Rattle.std.specs.Prelude.{ℕ};
 

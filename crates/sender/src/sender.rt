@@ -11,6 +11,9 @@ mod room;
 mod sends;
 mod timeouts;
 
+/// The most claims that may be outstanding.
+const MOST_CLAIMS: usize = 64;
+
 /// A sender that may still send.
 #[derive(Clone, Copy)]
 pub struct Sending;
@@ -24,7 +27,7 @@ pub struct Finished;
 pub struct Sender<C: Controller, N: NonceSource, S = Sending> {
     controller: C,
     nonces: N,
-    table: Table<64>,
+    table: Table<MOST_CLAIMS>,
     /// The sum, modulo 2^64, of the summed nonces of the segments whose claims are gone.
     settled: u64,
     /// The bytes sent.
@@ -43,11 +46,11 @@ impl<C: Controller, N: NonceSource, S> Model for Sender<C, N, S> {
 
     ghost Value = { State C };
 
-    ghost use Rattle.sender.specs.Sound.{Sound};
+    ghost use Rattle.sender.specs.Views.{state_of, Sound};
 
-    ghost view = { λ s. record { control = s.controller; words = N.words s.nonces; claims = s.table; settled = s.settled; sent = s.sent; proved = s.proved; duplicates = s.duplicates; due = s.repeat_due } };
+    ghost view = { state_of N.words };
 
-    ghost invariant = { λ s. Sound s.sent s.proved s.duplicates s.table };
+    ghost invariant = { λ s. Sound (state_of N.words s) };
 }
 
 pub type FinishedSender<C, N> = Sender<C, N, Finished>;

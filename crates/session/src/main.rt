@@ -73,7 +73,9 @@ fn main(rt: HostRuntime) -> io::Result<()> {
     let mut refused: u32 = 0;
     for (i, event) in EVENTS.iter().enumerate() {
         let verdict = event.play(&mut panel);
-        refused += u32::from(verdict.is_err());
+        if verdict.is_err() {
+            refused += 1;
+        }
         let line = Line {
             number: i + 1,
             event: *event,

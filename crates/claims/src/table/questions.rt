@@ -33,10 +33,11 @@ impl<const ROOM: usize> Table<ROOM> {
                 known = true;
             }
         }
-        if known {
-            return Err(EchoFault::Spent);
-        }
-        Err(EchoFault::Unknown)
+        Err(if known {
+            EchoFault::Spent
+        } else {
+            EchoFault::Unknown
+        })
     }
 
     /// The claimed segment that begins at a start.

@@ -50,7 +50,7 @@ impl Controller for Iiad {
     }
 
     fn credit(&mut self, bytes: u64) {
-        self.growth.fill(bytes);
+        self.growth.credit(bytes);
     }
 
     fn loss(&mut self, _flight: u64) {

@@ -78,7 +78,7 @@ impl Controller for Reno {
         let climbed = self.climbing(bytes);
         let growth = &mut self.growth;
         growth.window += climbed;
-        growth.fill(bytes - u64::from(climbed));
+        growth.credit(bytes - u64::from(climbed));
     }
 
     fn loss(&mut self, flight: u64) {

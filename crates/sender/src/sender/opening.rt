@@ -16,7 +16,7 @@ impl<C: Controller, N: NonceSource> Sender<C, N> {
         Sender::empty(controller, nonces)
     }
 
-    // No claim, and every number at 0.
+    // No claim, and every number at 0. Apart from `new`, so that what `new` promises is proved from this clause alone.
     fn empty(controller: C, nonces: N) -> Sender<C, N>
         ensures { result ≡ opened controller (N.words nonces) }
     {

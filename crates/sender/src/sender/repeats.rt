@@ -21,6 +21,7 @@ impl<C: Controller, N: NonceSource, S> Sender<C, N, S> {
             return Err(SenderFault::NoRepeatDue { sent });
         }
         self.repeat_due = false;
+        // By the rules the order names 0 where nothing is outstanding; no sender comes there.
         Ok(Order::new(self.table.oldest_start().unwrap_or(0)))
     }
 

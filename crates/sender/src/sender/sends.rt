@@ -5,7 +5,7 @@ ghost use Rattle.protocol.specs.SenderRules.{reply, checks};
 ghost use Rattle.protocol.specs.Answers.{told, refusal_in, to_send};
 ghost use Rattle.sender.specs.Parts.{drawn_from, entered};
 
-use super::Sender;
+use super::{MOST_CLAIMS, Sender};
 use congestion::controller::Controller;
 use nonce::source::NonceSource;
 use protocol::faults::SenderFault;
@@ -13,9 +13,6 @@ use protocol::segment::{Claim, Segment};
 
 /// The most bytes that a stream may have.
 const MOST_BYTES: u64 = 1 << 40;
-
-/// The most claims that may be outstanding.
-const MOST_CLAIMS: usize = 64;
 
 impl<C: Controller, N: NonceSource> Sender<C, N> {
     // The checks of a send, in their order.

@@ -1,10 +1,9 @@
-use Rattle.std.proofs.Common.{◌≡◌, ◌≤◌, ap, arith}
-use Rattle.sender.proofs.Sound.{sound_kept}
+use Rattle.std.proofs.Common.{ap}
+use Rattle.sender.proofs.Sound.{sound_freed}
 use Rattle.sender.proofs.sender.Sender.free_claims.Goals as goal
 
 pub invariant_of-self : goal.invariant_of-self
 invariant_of-self g c =
-    let s = c.self.inside in
-    let within : c.args.end ≤ s.sent = omega (arith, c.requires.within, ap (λ t. t.sent) c.self.view_is) in
-    let none : s.duplicates ≡ 0 = omega (arith, c.requires.none, ap (λ t. t.duplicates) c.self.view_is) in
-    rw (c.retire-self-inside.ensures.left, none) (sound_kept _ _ _ _ c.self.invariant _ c.args.end within)
+    let sent = ap (λ s. s.sent) c.self.view_is in
+    let duplicates = ap (λ s. s.duplicates) c.self.view_is in
+    rw (c.retire-self-inside.ensures.left, c.retire-self-inside.ensures.sum) (sound_freed c.self.invariant c.args.end (rw sent c.requires.within) (rw duplicates c.requires.none))

@@ -3,7 +3,7 @@ use Rattle.std.proofs.Common.{◌≡◌, ◌-◌, ◌^◌}
 use Rattle.std.specs.Fn.{iterate}
 use Rattle.congestion.specs.Growths.{fill}
 use Rattle.congestion.specs.Views.{sizes}
-use Rattle.congestion.proofs.growth.Growth.fill.Given as goal
+use Rattle.congestion.proofs.growth.Growth.credit.Given as goal
 
 -- what is left leads to where all of it leads
 abbrev pub invariant-loop-self : goal.invariant-loop-self
