@@ -85,6 +85,7 @@ impl<C: Controller, N: NonceSource, S> Sender<C, N, S> {
     }
 
     // Marks the claim at a place, counts one duplicate more, and tells where the claim's segment begins.
+    #[tactic(auto, using(crate::proofs::Sound::duplicates_few, crate::proofs::Sound::marked_is_spent))]
     fn spend(&mut self, place: usize) -> u64
         requires there { place < length self.old.claims }
         requires unspent { (slice_index_or self.old.claims place no_claim).spent ≡ false }

@@ -1,3 +1,4 @@
+-- The search does not find this, with the lemma named on the function either.
 use Rattle.std.proofs.Common.{filter, ap, ◌∙◌, rules}
 use Rattle.protocol.specs.Claims.{on}
 use Rattle.protocol.specs.Segments.{ends_past}

@@ -1,3 +1,4 @@
+-- The search does not find this, with the lemma named on the function either.
 use Rattle.protocol.proofs.Promises.{all_promises}
 use Rattle.sender.proofs.sender.opening.Sender+C+N.new.Goals as goal
 

@@ -1,3 +1,4 @@
+-- The search does not find this, with the lemma named on the function either.
 use Rattle.std.proofs.Common.{ap}
 use Rattle.claims.proofs.Tables.{entered}
 use Rattle.sender.proofs.Sound.{sound_entered}
