@@ -1,4 +1,4 @@
--- The search does not find this, with the lemma named on the function either.
+-- The search does not find this, and the lemma has a name that cannot be written on the function.
 use Rattle.std.proofs.Common.{filter, ap, ◌∙◌, rules}
 use Rattle.protocol.specs.Claims.{on}
 use Rattle.protocol.specs.Segments.{ends_past}
