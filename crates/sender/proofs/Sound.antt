@@ -1,12 +1,13 @@
 -- What always holds of a sender, after each thing that is done to its claims. Assumes nothing.
-use Rattle.std.proofs.Common.{◌≡◌, ℕ, ◌+◌, ◌^◌, ◌<◌, ◌≤◌, false, length, get_or, set, sym, arith}
+use Rattle.std.proofs.Common.{◌≡◌, ℕ, ◌+◌, ◌^◌, ◌<◌, ◌≤◌, Bool, false, length, get_or, set, sym, arith}
+use Rattle.protocol.specs.declared.segment.Claim.{Claim}
 use Rattle.protocol.specs.declared.segment.Segment.{Segment}
 use Rattle.protocol.specs.Calls.{State}
-use Rattle.protocol.specs.Claims.{on, spend}
-use Rattle.protocol.specs.Segments.{ends_past}
+use Rattle.protocol.specs.Claims.{spend}
+use Rattle.protocol.specs.Lists.{kept_by}
 use Rattle.claims.specs.Tables.{marked, no_claim}
 use Rattle.claims.proofs.Laid.{laid_kept, laid_marked, laid_push, spent_few, spent_push, spent_set, spend_set}
-use Rattle.sender.specs.Parts.{entered, freed}
+use Rattle.sender.specs.Parts.{entered}
 use Rattle.sender.specs.Views.{Sound}
 
 -- a sender that s stands for, with the claim at the place i marked
@@ -15,11 +16,11 @@ with_mark s i = record s { claims = set s.claims i (marked (get_or s.claims i no
 
 module _ {C : Type 0} {s : State C} (sound : Sound s) where
   -- some claims go with an end proved, and no duplicate is left that was counted for one of them
-  pub sound_freed : (end : ℕ) → end ≤ s.sent → s.duplicates ≡ 0 → Sound (freed s end)
-  sound_freed end within none = record {
+  pub sound_kept : (p : Claim → Bool) (sum end : ℕ) → end ≤ s.sent → s.duplicates ≡ 0 → Sound (record s { claims = kept_by p s.claims; settled = sum; proved = end })
+  sound_kept p sum end within none = record {
     within = within;
     limited = sound.limited;
-    ordered = laid_kept (on (ends_past end)) 0 s.claims s.sent sound.ordered;
+    ordered = laid_kept p 0 s.claims s.sent sound.ordered;
     marked = omega (arith, none);
   }
 
