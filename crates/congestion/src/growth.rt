@@ -2,6 +2,8 @@ ghost use Rattle.std.specs.Prelude.{◌≡◌, ℕ, ◌^◌, ◌<◌, ◌≤◌}
 ghost use Rattle.congestion.specs.Growths.{Bounded, NeverZero, HasRoom};
 
 use crate::controller::WIDEST;
+use crate::faults::ControllerFault;
+use crate::starts::first_window;
 use std::marker::PhantomData;
 
 /// How many credited bytes widen a window by a segment.
@@ -33,6 +35,7 @@ impl<I: Increase> Growth<I> {
     ghost use Rattle.std.specs.Fn.{iterate};
     ghost use Rattle.congestion.specs.AtOnce.{missing, widens, carried};
     ghost use Rattle.congestion.specs.Growths.{fresh, wider, fill};
+    ghost use Rattle.congestion.specs.Starts.{first_window, Makes};
     ghost use Rattle.congestion.specs.Views.{sizes};
 
     /// This window, and nothing in the carry.
@@ -49,6 +52,22 @@ impl<I: Increase> Growth<I> {
             carry: 0,
             increase: PhantomData,
         }
+    }
+
+    /// The first window of a segment size, and nothing in the carry.
+    pub(crate) fn first(segment: u32) -> Result<Growth<I>, ControllerFault>
+        ensures { Makes (λ g. sizes g ≡ fresh segment (first_window segment)) segment result }
+    {
+        let window = first_window(segment)?;
+        Ok(Growth::new(segment, window))
+    }
+
+    /// A window of one segment, and nothing in the carry.
+    pub(crate) fn restart(&mut self)
+        ensures { sizes self.new ≡ fresh (sizes self.old).segment (sizes self.old).segment }
+    {
+        self.window = self.segment;
+        self.carry = 0;
     }
 
     /// The bytes that the carry is short of its limit.

@@ -23,21 +23,17 @@ impl<const ROOM: usize> Table<ROOM> {
         ensures { Found proved echo self.now result }
     {
         let claims = self.claims();
-        let mut known = false;
+        let mut fault = EchoFault::Unknown;
         // The project asks for this loop over the claims with their index.
         for (i, claim) in claims.iter().enumerate() {
             if claim.segment.echoed_past(proved, echo) {
                 if !claim.spent {
                     return Ok(i);
                 }
-                known = true;
+                fault = EchoFault::Spent;
             }
         }
-        Err(if known {
-            EchoFault::Spent
-        } else {
-            EchoFault::Unknown
-        })
+        Err(fault)
     }
 
     /// The claimed segment that begins at a start.

@@ -10,15 +10,13 @@ use super::Iiad;
 use crate::controller::Controller;
 use crate::faults::ControllerFault;
 use crate::growth::Growth;
-use crate::starts::first_window;
 
 impl Iiad {
     /// The first window.
     pub fn new(segment: u32) -> Result<Iiad, ControllerFault>
         ensures { IiadStarts segment result }
     {
-        let window = first_window(segment)?;
-        let growth = Growth::new(segment, window);
+        let growth = Growth::first(segment)?;
         Ok(Iiad { growth })
     }
 }
@@ -60,7 +58,6 @@ impl Controller for Iiad {
     }
 
     fn timeout(&mut self, _flight: u64) {
-        let segment = self.segment();
-        self.growth = Growth::new(segment, segment);
+        self.growth.restart();
     }
 }

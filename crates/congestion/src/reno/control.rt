@@ -12,15 +12,13 @@ use super::Reno;
 use crate::controller::{Controller, WIDEST};
 use crate::faults::ControllerFault;
 use crate::growth::Growth;
-use crate::starts::first_window;
 
 impl Reno {
     /// The first window, and no threshold below the widest one.
     pub fn new(segment: u32) -> Result<Reno, ControllerFault>
         ensures { RenoStarts segment result }
     {
-        let window = first_window(segment)?;
-        let growth = Growth::new(segment, window);
+        let growth = Growth::first(segment)?;
         Ok(Reno {
             growth,
             threshold: WIDEST,
@@ -90,8 +88,7 @@ impl Controller for Reno {
     }
 
     fn timeout(&mut self, flight: u64) {
-        let segment = self.segment();
-        self.growth = Growth::new(segment, segment);
-        self.threshold = halved(segment, flight);
+        self.growth.restart();
+        self.threshold = halved(self.segment(), flight);
     }
 }
