@@ -1,4 +1,4 @@
--- The search finds the other goals, and not this one.
+-- The search finds the other goals, and not this one, with the lemma named on the function either.
 use Rattle.std.proofs.Common.{ap}
 use Rattle.sender.proofs.Sound.{sound_marked}
 use Rattle.sender.proofs.sender.Sender.spend.Goals as goal
