@@ -2,7 +2,7 @@
 use Rattle.std.proofs.Common.{ℕ, List, ◌∙◌}
 use Rattle.congestion.specs.Control.{Control, Lawful}
 use Rattle.protocol.specs.Calls.{Call, State}
-use Rattle.protocol.specs.Calls.Call.{send, take, repeat}
+use Rattle.protocol.specs.Calls.Call.{send}
 use Rattle.protocol.specs.SenderRules.{opened}
 use Rattle.protocol.specs.History.{History}
 use Rattle.protocol.specs.Runs.{state, history}
@@ -41,7 +41,7 @@ module _ {C : Type 0} (k : Control C) (c : C) (laws : Lawful k) (ws : List ℕ) 
     third_tells_loss = λ calls. third_so (kept calls);
     counted_once = λ calls x. counted_so (past calls) (kept calls).table (kept calls).proved (step k (now calls) x);
     bounded = λ calls. allowance_bounded (kept calls);
-    orders_the_oldest = λ calls. rw (← (kept calls).proved) (order_is (kept calls).table (kept calls).waiting (step k (now calls) take));
-    repeats_as_sent = λ calls o. rw (← (kept calls).proved) (repeat_is (kept calls).table (step k (now calls) (repeat o)));
+    orders_the_oldest = λ calls. rw (← (kept calls).proved) (order_is k (kept calls).table (kept calls).waiting);
+    repeats_as_sent = λ calls. rw (← (kept calls).proved) (repeat_is k (kept calls).table);
     one_value = λ before after l e m x g is unreached past within. one_accepted k c laws ws before l g is after unreached e m x past within;
   }

@@ -13,11 +13,12 @@ use Rattle.protocol.specs.Claims.{on, oldest, segment_at}
 use Rattle.protocol.specs.Calls.{Call, State, Reply}
 use Rattle.protocol.specs.Calls.Call.{take, repeat}
 use Rattle.protocol.specs.Calls.Answer.{ordered, repeated}
+use Rattle.protocol.specs.SenderRules.{reply}
 use Rattle.protocol.specs.History.{History, noted, segments, EndToEnd}
 use Rattle.protocol.specs.Duplicates.{starts_counted}
 use Rattle.protocol.proofs.Lists.{leads-map, any_wider}
-use Rattle.protocol.proofs.Steps.{Step}
-use Rattle.protocol.proofs.Steps.Step.{refuses, sends, counts, expires, orders, repeats, returns}
+use Rattle.protocol.proofs.Steps.{Step, orders_so, repeats_so}
+use Rattle.protocol.proofs.Steps.Step.{sends, counts, expires, returns}
 use Rattle.protocol.proofs.ClaimTable.{ClaimTable, claim, pending, found_segment}
 use Rattle.protocol.proofs.Stream.{one_past}
 
@@ -58,17 +59,17 @@ module _ (os : List ℕ) where
   segment_found o (f ∷ fs) some =
       cond_both (starts_at o f) _ _ (Contains (f ∷ fs)) (λ at. (0, omega arith, refl)) (λ off. Contains-append_right (f ∷ []) fs _ (segment_found o fs (grind arith)))
 
-module _ {C : Type 0} {k : Control C} {ws : List ℕ} {s : State C} {gs : List Segment} {os : List ℕ} (t : ClaimTable ws s gs os) where
+module _ {C : Type 0} (k : Control C) {ws : List ℕ} {s : State C} {gs : List Segment} {os : List ℕ} (t : ClaimTable ws s gs os) where
   -- an order names the oldest
-  pub order_is : (s.due ≡ true → any (ends_past s.proved) gs ≡ true) → {r : Reply C} → Step k s take r → (o : ℕ) → r.answer ≡ ordered o → leads (starts_at o) (pending t) ≡ true
-  order_is waiting (refuses idle) o is = grind arith
-  order_is waiting (orders due) o is =
+  pub order_is : (s.due ≡ true → any (ends_past s.proved) gs ≡ true) → (o : ℕ) → (reply k s take).answer ≡ ordered o → leads (starts_at o) (pending t) ≡ true
+  order_is waiting o is =
+      let (due, named) = orders_so k s o is in
       let same : oldest (λ c. true) (map (claim os) (pending t)) ≡ o = rw (← t.claims) (cc) in
       rw same at (first_leads os (ends_past s.proved) gs (waiting due))
 
   -- a repeat answers an outstanding segment
-  pub repeat_is : {o : ℕ} {r : Reply C} → Step k s (repeat o) r → (g : Segment) → r.answer ≡ repeated g → Contains (pending t) g × (g.start ≡ o)
-  repeat_is (refuses idle) g is = absurd (grind arith)
-  repeat_is (repeats {o} some) g is =
+  pub repeat_is : (o : ℕ) (g : Segment) → (reply k s (repeat o)).answer ≡ repeated g → Contains (pending t) g × (g.start ≡ o)
+  repeat_is o g is =
+      let (some, answered) = repeats_so k s o g is in
       let same : segment_at o (map (claim os) (pending t)) ≡ g = rw (← t.claims) (cc) in
       rw (← same) (segment_found os o _ (rw t.claims at some), starts_there o _)

@@ -1,8 +1,9 @@
--- What the reply to a call may be, with what its checks have told by then: all later lemmas go by these cases. Assumes nothing.
+-- What the reply to a call may be, with what its checks have told by then: all later lemmas go by these cases, and by the last two lemmas. Assumes nothing.
 use Rattle.std.proofs.Common.{◌≡◌, ℕ, ◌<◌, ◌≤◌, Bool, true, false, cond, ◌&&◌, ◌||◌, eqb, ltb, List, [], ◌∷◌, length, Some, None, Option, refl, arith}
 use Rattle.std.proofs.lemmas.Bool.Decides.{nat_tests}
 use Rattle.fault.specs.Refusals.{Refusal}
 use Rattle.congestion.specs.Control.{Control}
+use Rattle.protocol.specs.declared.segment.Segment.{Segment}
 use Rattle.protocol.specs.declared.segment.Claim.{Claim}
 use Rattle.protocol.specs.Lists.{any, leads}
 use Rattle.protocol.specs.Segments.{starts_at}
@@ -29,8 +30,8 @@ module _ {C : Type 0} where
     counts : {e m x : ℕ} (o : ℕ) (third : Bool) → e ≡ s.proved → Found s x o →
         Step k s (acknowledge e m x) (record { answer = cond third (lost o) (counted o); state = after_duplicate k s o third })
     expires : s.proved < s.sent → Step k s timeout (record { answer = expired; state = after_timeout k s })
-    orders : s.due ≡ true → Step k s take (record { answer = ordered (oldest (λ c. true) s.claims); state = with_due s false })
-    repeats : {o : ℕ} → any (on (starts_at o)) s.claims ≡ true → Step k s (repeat o) (record { answer = repeated (segment_at o s.claims); state = s })
+    orders : {o : ℕ} → Step k s take (record { answer = ordered o; state = with_due s false })
+    repeats : {o : ℕ} → Step k s (repeat o) (record { answer = repeated (segment_at o s.claims); state = s })
     returns : {o : ℕ} → Step k s (put_back o) (record { answer = returned o; state = with_due s (s.due || leads (on (starts_at o)) s.claims) })
 
 oldest_passes : (p : Claim → Bool) (cs : List Claim) → any p cs ≡ true → any (λ c. on (starts_at (oldest p cs)) c && p c) cs ≡ true
@@ -52,8 +53,8 @@ module _ {C : Type 0} (k : Control C) (s : State C) where
           let level : e ≡ s.proved = grind (arith, nat_tests) in
           counts (oldest (unspent s.proved x) s.claims) (eqb s.duplicates 2) level (oldest_passes (unspent s.proved x) s.claims (grind (arith, nat_tests)))
   accepts timeout none = expires (grind (arith, nat_tests))
-  accepts take none = orders (grind arith)
-  accepts (repeat o) none = repeats (grind arith)
+  accepts take none = orders
+  accepts (repeat o) none = repeats
   accepts (put_back o) none = returns
 
   pub step : (x : Call) → Step k s x (reply k s x)
@@ -62,3 +63,13 @@ module _ {C : Type 0} (k : Control C) (s : State C) where
       go : (f : Option Refusal) → first_refusal (checks k s x) ≡ f → Step k s x (concluded k s x f)
       go None none = accepts x none
       go (Some f) some = refuses (idle x some)
+
+  -- what the checks of a take and of a repeat tell stands here and not in the cases, so that what each call keeps is proved without it
+
+  -- an order is made only while a repeat is due, and is the rule's
+  pub orders_so : (o : ℕ) → (reply k s take).answer ≡ ordered o → (s.due ≡ true) × ((accepted k s take).answer ≡ ordered o)
+  orders_so o is = (grind arith, grind arith)
+
+  -- a repeat is answered only if a claim starts at o, and by the rule
+  pub repeats_so : (o : ℕ) (g : Segment) → (reply k s (repeat o)).answer ≡ repeated g → (any (on (starts_at o)) s.claims ≡ true) × ((accepted k s (repeat o)).answer ≡ repeated g)
+  repeats_so o g is = (grind arith, grind arith)
