@@ -1,3 +1,4 @@
+pub mod Choice
 pub mod Iterates
 pub mod Control
 pub mod Faults

@@ -2,11 +2,11 @@
 use Rattle.std.specs.Prelude.{◌≡◌, ℕ, ◌+◌, ◌*◌, ◌/◌, ◌^◌, ◌≤◌, min, max, cond, Result, nat_lt}
 use Rattle.std.specs.Fn.{iterate}
 use Rattle.std.proofs.Common.{arith}
-use Rattle.std.proofs.lemmas.Grind.{common_steps}
+use Rattle.congestion.specs.Choice.{choice}
 use Rattle.congestion.specs.Control.{Control}
 use Rattle.congestion.specs.Iterates.{iterate_keeps}
 use Rattle.congestion.specs.Starts.{first_window, Makes}
-use Rattle.congestion.specs.Growths.{Sizes, additive_limit, at, fresh, fill, Bounded, additive_never_zero, fresh_bounded, one_segment_bounded}
+use Rattle.congestion.specs.Growths.{Sizes, additive_limit, at, fresh, fill, Bounded, additive_never_zero, fill_bounded, fresh_bounded, one_segment_bounded}
 use Rattle.congestion.specs.Views.{sizes, resized}
 use Rattle.congestion.specs.declared.faults.ControllerFault.{ControllerFault}
 use Rattle.congestion.specs.declared.reno.Reno.{Reno}
@@ -37,7 +37,10 @@ timed_out s = fresh s.growth.segment s.growth.segment
 
 -- each of these is within the bounds, which a Reno carries with it
 pub byte_bounded : (t : ℕ) → t ≤ 2 ^ 24 → (g : Sizes) → Bounded additive_limit g → Bounded additive_limit (byte t g)
-byte_bounded t limited g b = grind (arith, common_steps)
+byte_bounded t limited g b =
+    choice (Bounded additive_limit) g.window t
+    (λ below. (b.0, b.1, omega arith, omega arith, omega arith))
+    (λ above. fill_bounded additive_limit additive_never_zero g b)
 
 pub credited_bounded : (s : Reno) (n : ℕ) → Bounded additive_limit (credited s n)
 credited_bounded s n = iterate_keeps (Bounded additive_limit) (byte s.threshold) (byte_bounded s.threshold s.limited) n (sizes s.growth) s.growth.bounded
