@@ -1,5 +1,7 @@
 -- What always holds of a sender, after each thing that is done to its claims. Assumes nothing.
 use Rattle.std.proofs.Common.{◌≡◌, ℕ, ◌+◌, ◌^◌, ◌<◌, ◌≤◌, Bool, false, length, get_or, set, sym, arith}
+use Rattle.std.proofs.lemmas.List.{length-append, length-set}
+use Rattle.std.proofs.lemmas.List.Sums.{length-filter, count_by-le-length}
 use Rattle.protocol.specs.declared.segment.Claim.{Claim}
 use Rattle.protocol.specs.declared.segment.Segment.{Segment}
 use Rattle.protocol.specs.Calls.{State}
@@ -21,15 +23,17 @@ module _ {C : Type 0} {s : State C} (sound : Sound s) where
     within = within;
     limited = sound.limited;
     ordered = laid_kept p 0 s.claims s.sent sound.ordered;
+    few = let f = sound.few in rw length-filter (omega (arith, count_by-le-length p s.claims));
     marked = omega (arith, none);
   }
 
   -- the claim of the next segment is entered
-  pub sound_entered : (g : Segment) → g.start ≡ s.sent → 0 < g.length → s.sent + g.length ≤ 2 ^ 40 → Sound (entered s g)
-  sound_entered g next some holds = record {
+  pub sound_entered : (g : Segment) → g.start ≡ s.sent → 0 < g.length → s.sent + g.length ≤ 2 ^ 40 → length s.claims < 64 → Sound (entered s g)
+  sound_entered g next some holds room = record {
     within = let w = sound.within in omega arith;
     limited = holds;
     ordered = laid_push 0 s.claims s.sent _ sound.ordered next some;
+    few = rw length-append (omega (arith, room));
     marked = spent_push s.duplicates s.claims _ sound.marked;
   }
 
@@ -44,6 +48,7 @@ module _ {C : Type 0} {s : State C} (sound : Sound s) where
       within = sound.within;
       limited = sound.limited;
       ordered = laid_marked 0 s.claims s.sent i sound.ordered there;
+      few = rw length-set sound.few;
       marked = let m = sound.marked in omega (arith, spent_set s.claims i there unspent);
     }
 

@@ -5,6 +5,8 @@
 #[cfg(test)]
 mod acknowledgements;
 #[cfg(test)]
+mod callers;
+#[cfg(test)]
 mod faults;
 #[cfg(test)]
 mod repeats;

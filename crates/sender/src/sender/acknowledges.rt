@@ -4,6 +4,7 @@ ghost use Rattle.protocol.specs.SenderRules.{reply, after_advance, after_duplica
 ghost use Rattle.protocol.specs.Answers.{told, to_acknowledge, progress};
 ghost use Rattle.claims.specs.Tables.{no_claim};
 ghost use Rattle.sender.specs.Parts.{freed};
+ghost use Rattle.sender.specs.Views.{Sound};
 
 use super::Sender;
 use claims::faults::EchoFault;
@@ -23,7 +24,8 @@ impl<C: Controller, N: NonceSource, S> Sender<C, N, S> {
         sum: u64,
         echo: u64,
     ) -> Result<Acknowledged, SenderFault>
-        ensures { reply C.control self.old (Call.acknowledge end sum echo) ≡ told (to_acknowledge result) self.new }
+        ensures answer { reply C.control self.old (Call.acknowledge end sum echo) ≡ told (to_acknowledge result) self.new }
+        ensures sound { Sound self.new }
     {
         if end > self.sent {
             return Err(SenderFault::BeyondSent { end });
@@ -50,7 +52,8 @@ impl<C: Controller, N: NonceSource, S> Sender<C, N, S> {
     fn advance(&mut self, end: u64)
         requires beyond { self.old.proved ≤ end }
         requires within { end ≤ self.old.sent }
-        ensures { self.new ≡ after_advance C.control self.old end }
+        ensures state { self.new ≡ after_advance C.control self.old end }
+        ensures sound { Sound self.new }
     {
         self.controller.credit(end - self.proved);
         self.duplicates = 0;
@@ -62,7 +65,8 @@ impl<C: Controller, N: NonceSource, S> Sender<C, N, S> {
     fn free_claims(&mut self, end: u64)
         requires within { end ≤ self.old.sent }
         requires none { self.old.duplicates ≡ 0 }
-        ensures { self.new ≡ freed self.old end }
+        ensures state { self.new ≡ freed self.old end }
+        ensures sound { Sound self.new }
     {
         self.settled = self.table.retire(end, self.settled);
         self.proved = end;
@@ -72,7 +76,8 @@ impl<C: Controller, N: NonceSource, S> Sender<C, N, S> {
     fn count_duplicate(&mut self, place: usize) -> Acknowledged
         requires there { place < length self.old.claims }
         requires unspent { (slice_index_or self.old.claims place no_claim).spent ≡ false }
-        ensures { duplicate_counted C.control self.old (slice_index_or self.old.claims place no_claim).segment.start ≡ told (progress result) self.new }
+        ensures answer { duplicate_counted C.control self.old (slice_index_or self.old.claims place no_claim).segment.start ≡ told (progress result) self.new }
+        ensures sound { Sound self.new }
     {
         let start = self.spend(place);
         if self.duplicates == LOSS_AT {
@@ -91,6 +96,7 @@ impl<C: Controller, N: NonceSource, S> Sender<C, N, S> {
         requires unspent { (slice_index_or self.old.claims place no_claim).spent ≡ false }
         ensures start { result ≡ (slice_index_or self.old.claims place no_claim).segment.start }
         ensures state { self.new ≡ after_duplicate C.control self.old result false }
+        ensures sound { Sound self.new }
     {
         let start = self.table.claims()[place].segment.start;
         self.table.mark_spent(place);

@@ -1,4 +1,5 @@
 ghost use Rattle.std.specs.Prelude.{◌≡◌};
+ghost use Rattle.sender.specs.Views.{Sound};
 
 use super::Sender;
 use congestion::controller::Controller;
@@ -7,21 +8,24 @@ use nonce::source::NonceSource;
 impl<C: Controller, N: NonceSource, S> Sender<C, N, S> {
     /// The bytes sent.
     pub fn sent(&self) -> u64
-        ensures { result ≡ self.now.sent }
+        ensures value { result ≡ self.now.sent }
+        ensures sound { Sound self.now }
     {
         self.sent
     }
 
     /// The proved end: all bytes before it are acknowledged.
     pub fn proved(&self) -> u64
-        ensures { result ≡ self.now.proved }
+        ensures value { result ≡ self.now.proved }
+        ensures sound { Sound self.now }
     {
         self.proved
     }
 
     /// Whether a repeat of the oldest outstanding segment is due.
     pub fn repeat_due(&self) -> bool
-        ensures { result ≡ self.now.due }
+        ensures value { result ≡ self.now.due }
+        ensures sound { Sound self.now }
     {
         self.repeat_due
     }

@@ -1,6 +1,7 @@
 ghost use Rattle.std.specs.Prelude.{◌≡◌};
 ghost use Rattle.protocol.specs.Promises.{Promises};
 ghost use Rattle.protocol.specs.SenderRules.{opened};
+ghost use Rattle.sender.specs.Views.{Sound};
 
 use super::{Finished, FinishedSender, Sender, Sending};
 use claims::table::Table;
@@ -12,13 +13,15 @@ impl<C: Controller, N: NonceSource> Sender<C, N> {
     pub fn new(controller: C, nonces: N) -> Sender<C, N>
         ensures fresh { result ≡ opened controller (N.words nonces) }
         ensures promises { Promises C.control result }
+        ensures sound { Sound result }
     {
         Sender::empty(controller, nonces)
     }
 
     // No claim, and every number at 0. Apart from `new`, so that what `new` promises is proved from this clause alone.
     fn empty(controller: C, nonces: N) -> Sender<C, N>
-        ensures { result ≡ opened controller (N.words nonces) }
+        ensures state { result ≡ opened controller (N.words nonces) }
+        ensures sound { Sound result }
     {
         Sender {
             controller,
@@ -36,7 +39,8 @@ impl<C: Controller, N: NonceSource> Sender<C, N> {
     /// No more is sent; all other calls go on as before.
     // A struct is not updated into another type, so each field is named.
     pub fn finish(self) -> FinishedSender<C, N>
-        ensures { result ≡ self }
+        ensures state { result ≡ self }
+        ensures sound { Sound result }
     {
         let Sender {
             controller,

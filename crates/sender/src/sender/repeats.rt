@@ -3,6 +3,7 @@ ghost use Rattle.protocol.specs.Calls.{Call, Answer};
 ghost use Rattle.protocol.specs.SenderRules.{reply};
 ghost use Rattle.protocol.specs.Answers.{told, to_repeat};
 ghost use Rattle.sender.specs.Orders.{to_take, repeat_taken};
+ghost use Rattle.sender.specs.Views.{Sound};
 
 use super::Sender;
 use crate::order::Order;
@@ -14,7 +15,8 @@ use protocol::segment::Segment;
 impl<C: Controller, N: NonceSource, S> Sender<C, N, S> {
     /// Takes the order to repeat the oldest outstanding segment; then no repeat is due.
     pub fn take(&mut self) -> Result<Order, SenderFault>
-        ensures { reply C.control self.old Call.take ≡ told (to_take result) self.new }
+        ensures answer { reply C.control self.old Call.take ≡ told (to_take result) self.new }
+        ensures sound { Sound self.new }
     {
         if !self.repeat_due {
             let sent = self.sent;
@@ -27,7 +29,8 @@ impl<C: Controller, N: NonceSource, S> Sender<C, N, S> {
 
     /// Spends an order: the same segment again, unless it has been acknowledged meanwhile.
     pub fn repeat(&self, order: Order) -> Result<Segment, SenderFault>
-        ensures { reply C.control self.now (Call.repeat order) ≡ told (to_repeat result) self.now }
+        ensures answer { reply C.control self.now (Call.repeat order) ≡ told (to_repeat result) self.now }
+        ensures sound { Sound self.now }
     {
         let start = order.spend();
         self.table
@@ -37,7 +40,8 @@ impl<C: Controller, N: NonceSource, S> Sender<C, N, S> {
 
     /// Takes a due repeat and repeats it.
     pub fn take_and_repeat(&mut self) -> Result<Segment, SenderFault>
-        ensures { repeat_taken C.control self.old ≡ told (to_repeat result) self.new }
+        ensures answer { repeat_taken C.control self.old ≡ told (to_repeat result) self.new }
+        ensures sound { Sound self.new }
     {
         let order = self.take()?;
         self.repeat(order)
@@ -45,7 +49,8 @@ impl<C: Controller, N: NonceSource, S> Sender<C, N, S> {
 
     /// Spends an order unused: a repeat is due again if the order's segment is the oldest outstanding one, else nothing changes.
     pub fn put_back(&mut self, order: Order)
-        ensures { reply C.control self.old (Call.put_back order) ≡ told (Answer.returned order) self.new }
+        ensures answer { reply C.control self.old (Call.put_back order) ≡ told (Answer.returned order) self.new }
+        ensures sound { Sound self.new }
     {
         let start = order.spend();
         if self.table.oldest_is_at(start) {

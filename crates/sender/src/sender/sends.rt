@@ -4,6 +4,7 @@ ghost use Rattle.protocol.specs.Checks.{first_refusal};
 ghost use Rattle.protocol.specs.SenderRules.{reply, checks};
 ghost use Rattle.protocol.specs.Answers.{told, refusal_in, to_send};
 ghost use Rattle.sender.specs.Parts.{drawn_from, entered};
+ghost use Rattle.sender.specs.Views.{Sound};
 
 use super::{MOST_CLAIMS, Sender};
 use congestion::controller::Controller;
@@ -17,7 +18,8 @@ const MOST_BYTES: u64 = 1 << 40;
 impl<C: Controller, N: NonceSource> Sender<C, N> {
     // The checks of a send, in their order.
     fn check_send(&self, length: u16) -> Result<(), SenderFault>
-        ensures { first_refusal (checks C.control self.now (Call.send length)) ≡ refusal_in result }
+        ensures answer { first_refusal (checks C.control self.now (Call.send length)) ≡ refusal_in result }
+        ensures sound { Sound self.now }
     {
         let sent = self.sent;
         if length == 0 || u32::from(length) > self.controller.segment() {
@@ -40,7 +42,8 @@ impl<C: Controller, N: NonceSource> Sender<C, N> {
 
     /// Sends the next `length` bytes: draws two words, the summed nonce and then the single nonce, and enters the claim.
     pub fn send(&mut self, length: u16) -> Result<Segment, SenderFault>
-        ensures { reply C.control self.old (Call.send length) ≡ told (to_send result) self.new }
+        ensures answer { reply C.control self.old (Call.send length) ≡ told (to_send result) self.new }
+        ensures sound { Sound self.new }
     {
         self.check_send(length)?;
         let segment = draw_segment(&mut self.nonces, self.sent, length);
@@ -54,7 +57,8 @@ impl<C: Controller, N: NonceSource> Sender<C, N> {
         requires some { 0 < segment.length }
         requires holds { self.old.sent + segment.length ≤ 2 ^ 40 }
         requires room { count self.old.claims < 64 }
-        ensures { self.new ≡ entered self.old segment }
+        ensures state { self.new ≡ entered self.old segment }
+        ensures sound { Sound self.new }
     {
         let claim = Claim {
             segment,

@@ -8,3 +8,6 @@ invariant_of-self g c =
     let sent = ap (λ s. s.sent) c.self.view_is in
     let duplicates = ap (λ s. s.duplicates) c.self.view_is in
     rw c.retire-self-inside.ensures.left (sound_kept c.self.invariant _ _ c.args.end (rw sent c.requires.within) (rw duplicates c.requires.none))
+
+pub returns-clause-sound : goal.returns-clause-sound
+returns-clause-sound = invariant_of-self

@@ -4,4 +4,4 @@ use Rattle.sender.proofs.sender.opening.Sender+C+N.new.Goals as goal
 
 pub returns-clause-promises : goal.returns-clause-promises
 returns-clause-promises g c =
-    rw c.empty.ensures (all_promises g.C.Controller.control c.args.controller g.met.C.Controller.lawful (g.N.NonceSource.words c.args.nonces))
+    rw c.empty.ensures.state (all_promises g.C.Controller.control c.args.controller g.met.C.Controller.lawful (g.N.NonceSource.words c.args.nonces))
