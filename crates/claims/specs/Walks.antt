@@ -1,5 +1,5 @@
 -- What a walk over the claims finds. Assumes nothing.
-use Rattle.std.specs.Prelude.{◌≡◌, ℕ, ◌+◌, ◌%◌, ◌^◌, ◌<◌, true, false, List, length, get_or, take, Some, None, Option, Ok, Err, Result, slice_index_or}
+use Rattle.std.specs.Prelude.{◌≡◌, ℕ, ◌+◌, ◌%◌, ◌^◌, ◌<◌, Bool, true, false, cond, List, length, get_or, take, Some, None, Option, Ok, Err, Result, slice_index_or}
 use Rattle.protocol.specs.declared.segment.Segment.{Segment}
 use Rattle.protocol.specs.declared.segment.Claim.{Claim}
 use Rattle.protocol.specs.Lists.{any}
@@ -29,6 +29,10 @@ abbrev pub Named : ℕ → List Claim → Option Segment → Type 0
 Named o cs None = any (on (starts_at o)) cs ≡ false
 Named o cs (Some g) = (any (on (starts_at o)) cs ≡ true) × (segment_at o cs ≡ g)
 
--- a claim's nonce added to a sum, modulo 2^64
-abbrev pub add_nonce : ℕ → Claim → ℕ
-add_nonce sum c = (sum + nonce c) % 2 ^ 64
+-- the nonce of a claim that passes a test, and 0 of another
+abbrev pub nonce_if : (Claim → Bool) → Claim → ℕ
+nonce_if p c = cond (p c) (nonce c) 0
+
+-- a nonce added to a sum, modulo 2^64
+abbrev pub add_nonce : ℕ → ℕ → ℕ
+add_nonce sum n = (sum + n) % 2 ^ 64

@@ -1,5 +1,6 @@
 ghost use Rattle.std.specs.Prelude.{◌≡◌};
 ghost use Rattle.protocol.specs.Answers.{told, to_repeat};
+ghost use Rattle.sender.specs.Views.{Sound};
 ghost use Rattle.put_back.specs.Orders.{repeat_put_back};
 
 use congestion::controller::Controller;
@@ -12,7 +13,8 @@ use sender::sender::Sender;
 pub fn repeat_put_back<C: Controller, N: NonceSource>(
     panel: &mut Sender<C, N>,
 ) -> Result<Segment, SenderFault>
-    ensures { repeat_put_back C.control panel.old ≡ told (to_repeat result) panel.new }
+    ensures answer { repeat_put_back C.control panel.old ≡ told (to_repeat result) panel.new }
+    ensures sound { Sound panel.new }
 {
     let order = panel.take()?;
     panel.put_back(order);

@@ -1,5 +1,6 @@
 ghost use Rattle.std.specs.Prelude.{◌≡◌, Some};
 ghost use Rattle.protocol.specs.Answers.{refusal_in};
+ghost use Rattle.sender.specs.Views.{Sound};
 ghost use Rattle.session.specs.Events.{outcome};
 ghost use Rattle.session.specs.Listing.{listing_word};
 
@@ -39,7 +40,8 @@ impl Event {
         &self,
         panel: &mut Sender<C, N>,
     ) -> Result<(), SenderFault>
-        ensures { outcome C.control panel.old self.now ≡ record { refusal = refusal_in result; state = panel.new } }
+        ensures played { outcome C.control panel.old self.now ≡ record { refusal = refusal_in result; state = panel.new } }
+        ensures sound { Sound panel.new }
     {
         match *self {
             Event::Send { length } => {

@@ -16,7 +16,8 @@ use protocol::segment::Claim;
 impl<const ROOM: usize> Table<ROOM> {
     /// No place is taken.
     pub fn new() -> Table<ROOM>
-        ensures { result ≡ [] }
+        ensures value { result ≡ [] }
+        ensures fits { length result ≤ ROOM }
     {
         Table {
             claims: ArrayVec::new(),
@@ -36,6 +37,7 @@ impl<const ROOM: usize> Table<ROOM> {
         ensures free { IsOk result ↔ (length self.old < ROOM) }
         ensures entered { OnOk result (self.new ≡ self.old ++ claim ∷ []) }
         ensures full { OnErr result (self.new ≡ self.old) }
+        ensures fits { length self.new ≤ ROOM }
     {
         self.claims.try_push(claim).map_err(|_| TableFull)
     }
@@ -45,6 +47,7 @@ impl<const ROOM: usize> Table<ROOM> {
     pub fn retire(&mut self, end: u64, settled: u64) -> u64
         ensures left { self.new ≡ kept_by (on (ends_past end)) self.old }
         ensures sum { result ≡ (settled + sum_of (on (ends_by end)) nonce self.old) % 2 ^ 64 }
+        ensures fits { length self.new ≤ ROOM }
     {
         let sum = walks::add_ended(self.claims(), end, settled);
         self.claims.retain(|claim| !claim.segment.ends_by(end));
@@ -53,7 +56,8 @@ impl<const ROOM: usize> Table<ROOM> {
 
     /// Marks the claim at a place as spent; the others stay, and past the claims there is nothing to mark.
     pub fn mark_spent(&mut self, place: usize)
-        ensures { self.new ≡ slice_set self.old place (marked (slice_index_or self.old place no_claim)) }
+        ensures marks { self.new ≡ slice_set self.old place (marked (slice_index_or self.old place no_claim)) }
+        ensures fits { length self.new ≤ ROOM }
     {
         if let Some(claim) = self.claim_mut(place) {
             claim.spent = true;
@@ -65,6 +69,7 @@ impl<const ROOM: usize> Table<ROOM> {
         ensures* lends { sem 𝓛 (LendsIf (the_row ROOM.row) claim_row self.entry result (slice_set self.old place) self.old) }
         ensures variant { IsSome result ↔ (place < length self.old) }
         ensures value { IfSome result (λ claim. claim.now ≡ slice_index_or self.old place no_claim) }
+        ensures fits { length self.old ≤ ROOM }
     {
         self.claims.get_mut(place)
     }

@@ -6,7 +6,7 @@ use Rattle.sender.proofs.sender.Sender.spend.Goals as goal
 pub invariant_of-self : goal.invariant_of-self
 invariant_of-self g c =
     let same = ap (λ s. s.claims) c.self.view_is in
-    rw c.mark_spent.ensures (sound_marked c.self.invariant c.args.place (rw same c.requires.there) (rw same c.requires.unspent))
+    rw c.mark_spent.ensures.marks (sound_marked c.self.invariant c.args.place (rw same c.requires.there) (rw same c.requires.unspent))
 
 pub returns-clause-sound : goal.returns-clause-sound
 returns-clause-sound = invariant_of-self
