@@ -14,6 +14,7 @@ pub fn repeat_put_back<C: Controller, N: NonceSource>(
     panel: &mut Sender<C, N>,
 ) -> Result<Segment, SenderFault>
     ensures answer { repeat_put_back C.control panel.old ≡ told (to_repeat result) panel.new }
+    ensures before { Sound panel.old }
     ensures sound { Sound panel.new }
 {
     let order = panel.take()?;

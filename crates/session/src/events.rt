@@ -41,6 +41,7 @@ impl Event {
         panel: &mut Sender<C, N>,
     ) -> Result<(), SenderFault>
         ensures played { outcome C.control panel.old self.now ≡ record { refusal = refusal_in result; state = panel.new } }
+        ensures before { Sound panel.old }
         ensures sound { Sound panel.new }
     {
         match *self {

@@ -37,6 +37,7 @@ impl<const ROOM: usize> Table<ROOM> {
         ensures free { IsOk result ↔ (length self.old < ROOM) }
         ensures entered { OnOk result (self.new ≡ self.old ++ claim ∷ []) }
         ensures full { OnErr result (self.new ≡ self.old) }
+        ensures before { length self.old ≤ ROOM }
         ensures fits { length self.new ≤ ROOM }
     {
         self.claims.try_push(claim).map_err(|_| TableFull)
@@ -47,6 +48,7 @@ impl<const ROOM: usize> Table<ROOM> {
     pub fn retire(&mut self, end: u64, settled: u64) -> u64
         ensures left { self.new ≡ kept_by (on (ends_past end)) self.old }
         ensures sum { result ≡ (settled + sum_of (on (ends_by end)) nonce self.old) % 2 ^ 64 }
+        ensures before { length self.old ≤ ROOM }
         ensures fits { length self.new ≤ ROOM }
     {
         let sum = walks::add_ended(self.claims(), end, settled);
@@ -57,6 +59,7 @@ impl<const ROOM: usize> Table<ROOM> {
     /// Marks the claim at a place as spent; the others stay, and past the claims there is nothing to mark.
     pub fn mark_spent(&mut self, place: usize)
         ensures marks { self.new ≡ slice_set self.old place (marked (slice_index_or self.old place no_claim)) }
+        ensures before { length self.old ≤ ROOM }
         ensures fits { length self.new ≤ ROOM }
     {
         if let Some(claim) = self.claim_mut(place) {

@@ -25,6 +25,7 @@ impl<C: Controller, N: NonceSource, S> Sender<C, N, S> {
         echo: u64,
     ) -> Result<Acknowledged, SenderFault>
         ensures answer { reply C.control self.old (Call.acknowledge end sum echo) ≡ told (to_acknowledge result) self.new }
+        ensures before { Sound self.old }
         ensures sound { Sound self.new }
     {
         if end > self.sent {

@@ -16,6 +16,7 @@ impl<C: Controller, N: NonceSource, S> Sender<C, N, S> {
     /// Takes the order to repeat the oldest outstanding segment; then no repeat is due.
     pub fn take(&mut self) -> Result<Order, SenderFault>
         ensures answer { reply C.control self.old Call.take ≡ told (to_take result) self.new }
+        ensures before { Sound self.old }
         ensures sound { Sound self.new }
     {
         if !self.repeat_due {
@@ -41,6 +42,7 @@ impl<C: Controller, N: NonceSource, S> Sender<C, N, S> {
     /// Takes a due repeat and repeats it.
     pub fn take_and_repeat(&mut self) -> Result<Segment, SenderFault>
         ensures answer { repeat_taken C.control self.old ≡ told (to_repeat result) self.new }
+        ensures before { Sound self.old }
         ensures sound { Sound self.new }
     {
         let order = self.take()?;
@@ -50,6 +52,7 @@ impl<C: Controller, N: NonceSource, S> Sender<C, N, S> {
     /// Spends an order unused: a repeat is due again if the order's segment is the oldest outstanding one, else nothing changes.
     pub fn put_back(&mut self, order: Order)
         ensures answer { reply C.control self.old (Call.put_back order) ≡ told (Answer.returned order) self.new }
+        ensures before { Sound self.old }
         ensures sound { Sound self.new }
     {
         let start = order.spend();

@@ -43,6 +43,7 @@ impl<C: Controller, N: NonceSource> Sender<C, N> {
     /// Sends the next `length` bytes: draws two words, the summed nonce and then the single nonce, and enters the claim.
     pub fn send(&mut self, length: u16) -> Result<Segment, SenderFault>
         ensures answer { reply C.control self.old (Call.send length) ≡ told (to_send result) self.new }
+        ensures before { Sound self.old }
         ensures sound { Sound self.new }
     {
         self.check_send(length)?;

@@ -13,6 +13,7 @@ impl<C: Controller, N: NonceSource, S> Sender<C, N, S> {
     /// Nothing came back in time: the controller is told, and a repeat is due.
     pub fn timeout(&mut self) -> Result<(), SenderFault>
         ensures answer { reply C.control self.old Call.timeout ≡ told (to_timeout result) self.new }
+        ensures before { Sound self.old }
         ensures sound { Sound self.new }
     {
         let in_flight = self.in_flight();
